@@ -11,15 +11,15 @@ use Rattle.std.proofs.lemmas.List.Sums.{list_all-from_AllPass, AllPass-from_list
 use Rattle.std.proofs.lemmas.List.Quantifiers.{position-Some}
 use Rattle.gv_buffers.specs.declared.usage.Usage.TheVariants.{Read}
 use Rattle.gv_buffers.specs.declared.usage.User.{User}
-use Rattle.gv_buffers.specs.Users.{left}
+use Rattle.gv_buffers.specs.Users.{users_without}
 use Rattle.gv_buffers.specs.Ascending.{AreAscending, are_below}
-use Rattle.gv_buffers.proofs.Joins.{is_of, past_from_none}
-use Rattle.gv_buffers.proofs.TakenBack.{left_of_none}
+use Rattle.gv_buffers.proofs.UsersAfterJoin.{is_of, past_from_none}
+use Rattle.gv_buffers.proofs.LeaveUndoesJoin.{left_of_none}
 
--- the job stands at this place
-pub record IsAt (users : List User) (job place : ℕ) : Type 0 where
-  pub within : place < length users
-  pub here : (d : User) → (get_or users place d).job ≡ job
+-- the job stands at this index
+pub record IsAt (users : List User) (job index : ℕ) : Type 0 where
+  pub within : index < length users
+  pub here : (d : User) → (get_or users index d).job ≡ job
 
 no_one : User
 no_one = record { job = 0; usage = Read }
@@ -31,30 +31,30 @@ IsAbsent users job = All (λ u. u.job ≢ job) users
 ascending_tail : (user : User) (users : List User) → AreAscending (user ∷ users) → AreAscending users
 ascending_tail user users up i j d below within = up (suc i) (suc j) d (omega arith) (omega arith)
 
-at_tail : (user : User) (users : List User) (job place : ℕ) → IsAt (user ∷ users) job (suc place) → IsAt users job place
-at_tail user users job place at = record { within = omega (arith, at.within); here = λ d. at.here d }
+at_tail : (user : User) (users : List User) (job index : ℕ) → IsAt (user ∷ users) job (suc index) → IsAt users job index
+at_tail user users job index at = record { within = omega (arith, at.within); here = λ d. at.here d }
 
 -- the first user is another than one behind it
-first_apart : (user : User) (users : List User) (job place : ℕ) → AreAscending (user ∷ users) → IsAt (user ∷ users) job (suc place) → user.job ≢ job
-first_apart user users job place up at same =
-    let less : user.job < (get_or users place user).job = up 0 (suc place) user (omega arith) at.within in
-    let there : (get_or users place user).job ≡ job = at.here user in
+first_apart : (user : User) (users : List User) (job index : ℕ) → AreAscending (user ∷ users) → IsAt (user ∷ users) job (suc index) → user.job ≢ job
+first_apart user users job index up at same =
+    let less : user.job < (get_or users index user).job = up 0 (suc index) user (omega arith) at.within in
+    let there : (get_or users index user).job ≡ job = at.here user in
     omega (arith, less, there, same)
 
-reached : (users : List User) (job place : ℕ) → AreAscending users → IsAt users job place → position_or_len (is_of job) users ≡ place
-reached users job place up at =
-    position_or_len_is (is_of job) users place no_one (omega (arith, at.within))
-    (λ k less. ne_eqb _ _ (λ same. let lower = up k place no_one less at.within in omega (arith, lower, at.here no_one, same)))
+reached : (users : List User) (job index : ℕ) → AreAscending users → IsAt users job index → position_or_len (is_of job) users ≡ index
+reached users job index up at =
+    position_or_len_is (is_of job) users index no_one (omega (arith, at.within))
+    (λ k less. ne_eqb _ _ (λ same. let lower = up k index no_one less at.within in omega (arith, lower, at.here no_one, same)))
     (λ _. eq-eqb _ _ (at.here no_one))
 
 passed : (users : List User) (job : ℕ) → IsAbsent users job → position_or_len (is_of job) users ≡ length users
 passed users job none =
     position_or_len_is (is_of job) users (length users) no_one (omega arith) (λ k less. ne_eqb _ _ (none k no_one less)) (λ less. absurd (omega (arith, less)))
 
-pub position-at : (users : List User) (job place : ℕ) → AreAscending users → IsAt users job place → position (is_of job) users ≡ Some place
-position-at users job place up at =
-    let inside : nat_lt place (length users) ≡ true = lt-ltb _ _ at.within in
-    rw (reached users job place up at, inside) refl
+pub position-at : (users : List User) (job index : ℕ) → AreAscending users → IsAt users job index → position (is_of job) users ≡ Some index
+position-at users job index up at =
+    let inside : nat_lt index (length users) ≡ true = lt-ltb _ _ at.within in
+    rw (reached users job index up at, inside) refl
 
 pub position-absent : (users : List User) (job : ℕ) → IsAbsent users job → position (is_of job) users ≡ None
 position-absent users job none =
@@ -62,19 +62,19 @@ position-absent users job none =
     rw (passed users job none, outside) refl
 
 -- what a search says of users that ascend
-pub at-position : (users : List User) (job place : ℕ) → position (is_of job) users ≡ Some place → IsAt users job place
-at-position users job place found =
+pub at-position : (users : List User) (job index : ℕ) → position (is_of job) users ≡ Some index → IsAt users job index
+at-position users job index found =
     record {
-      within = (position-Some (is_of job) users place no_one found).0;
-      here = λ d. eqb-true _ _ (position-Some (is_of job) users place d found).1;
+      within = (position-Some (is_of job) users index no_one found).0;
+      here = λ d. eqb-true _ _ (position-Some (is_of job) users index d found).1;
     }
 
 absent_past : (job : ℕ) (users : List User) → length users ≤ position_or_len (is_of job) users → IsAbsent users job
 absent_past job users past k d within = eqb-false _ _ (fails_before_first (is_of job) users k d (omega (arith, past, within)))
 
 -- a job that was not found leaves no user away
-pub left-absent : (job : ℕ) (users : List User) → position (is_of job) users ≡ None → left job users ≡ users
-left-absent job users missed = left_of_none job users (absent_past job users (past_from_none _ _ missed))
+pub users_without-absent : (job : ℕ) (users : List User) → position (is_of job) users ≡ None → users_without job users ≡ users
+users_without-absent job users missed = left_of_none job users (absent_past job users (past_from_none _ _ missed))
 
 -- A binary search by job ends at the job, or says that it is none of the users.
 module _ (users : List User) (up : AreAscending users) (job : ℕ) where
@@ -83,8 +83,8 @@ module _ (users : List User) (up : AreAscending users) (job : ℕ) where
       let rise : (get_or users i d).job ≤ (get_or users j d).job = grind (arith, up i j d, λ (same : i ≡ j). ap (λ (k : ℕ). (get_or users k d).job) same) in
       grind (arith, nat_tests)
 
-  pub searched_at : (place : ℕ) → IsSearchInRange (Ok place) (length users) → IsBinarySearchResult (λ (u : User). nat_cmp u.job job) users (Ok place) → IsAt users job place
-  searched_at place within equal = record { within = within; here = λ d. ranked _ job _ (sym (equal d)) }
+  pub searched_at : (index : ℕ) → IsSearchInRange (Ok index) (length users) → IsBinarySearchResult (λ (u : User). nat_cmp u.job job) users (Ok index) → IsAt users job index
+  searched_at index within equal = record { within = within; here = λ d. ranked _ job _ (sym (equal d)) }
 
   pub searched_none : (gap : ℕ) → IsSearchInRange (Err gap) (length users) → IsBinarySearchResult (λ (u : User). nat_cmp u.job job) users (Err gap) → IsAbsent users job
   searched_none gap within parted k d less same =
@@ -93,20 +93,20 @@ module _ (users : List User) (up : AreAscending users) (job : ℕ) where
       grind (arith, smaller, greater)
 
 -- the last of several users is the newest
-pub below-last : (users : List User) (job place : ℕ) (last : User) → AreAscending users → place + 1 ≡ length users → ((d : User) → get_or users place d ≡ last) →
+pub below-last : (users : List User) (job index : ℕ) (last : User) → AreAscending users → index + 1 ≡ length users → ((d : User) → get_or users index d ≡ last) →
     are_below job users ≡ nat_lt last.job job
-below-last users job place last up end at =
+below-last users job index last up end at =
     ⊎_elim
     (λ (older : last.job < job).
     let yes : nat_lt last.job job ≡ true = lt-ltb _ _ older in
     let all : list_all (λ u. nat_lt u.job job) users ≡ true = list_all-from_AllPass (λ u. nat_lt u.job job) users
-    (λ k d within. let is : (get_or users place d).job ≡ last.job = ap (λ (u : User). u.job) (at d) in
-    lt-ltb _ _ (⊎_elim (λ (before : k < place). omega (arith, up k place d before (omega arith), is, older))
-    (λ (past : place ≤ k). let same : k ≡ place = omega (arith, past, within, end) in rw (same, is) older) (cases_lt k place))) in
+    (λ k d within. let is : (get_or users index d).job ≡ last.job = ap (λ (u : User). u.job) (at d) in
+    lt-ltb _ _ (⊎_elim (λ (before : k < index). omega (arith, up k index d before (omega arith), is, older))
+    (λ (past : index ≤ k). let same : k ≡ index = omega (arith, past, within, end) in rw (same, is) older) (cases_lt k index))) in
     rw yes all)
     (λ (newer : job ≤ last.job).
     let no : nat_lt last.job job ≡ false = le-ltb _ _ newer in
-    rw no (list_all_at (λ u. nat_lt u.job job) users place last (omega arith) (rw (at last) no)))
+    rw no (list_all_at (λ u. nat_lt u.job job) users index last (omega arith) (rw (at last) no)))
     (cases_lt last.job job)
 
 -- a newer job is none of the users
@@ -115,15 +115,15 @@ absent-below job users below k d within same =
     let less : (get_or users k d).job < job = ltb-true _ _ (AllPass-from_list_all (λ u. nat_lt u.job job) users below k d within) in
     omega (arith, less, same)
 
--- to take the job out of its place is to leave it away
-pub left-at : (users : List User) (job place : ℕ) → AreAscending users → IsAt users job place → remove users place ≡ left job users
-left-at [] job place up at = absurd (omega (arith, at.within))
-left-at (user ∷ users) job zero up at =
+-- to take the job out of its index is to leave it away
+pub users_without-at : (users : List User) (job index : ℕ) → AreAscending users → IsAt users job index → remove users index ≡ users_without job users
+users_without-at [] job index up at = absurd (omega (arith, at.within))
+users_without-at (user ∷ users) job zero up at =
     let mine : user.job ≡ job = at.here user in
     let same : eqb user.job job ≡ true = eq-eqb _ _ mine in
-    let others : left job users ≡ users = left_of_none job users
+    let others : users_without job users ≡ users = left_of_none job users
     (λ k d within is. let less : user.job < (get_or users k d).job = up 0 (suc k) d (omega arith) (omega arith) in omega (arith, less, is, mine)) in
     rw (same, others) refl
-left-at (user ∷ users) job (suc place) up at =
-    let other : eqb user.job job ≡ false = ne_eqb _ _ (first_apart user users job place up at) in
-    rw other (ap (λ (us : List User). user ∷ us) (left-at users job place (ascending_tail user users up) (at_tail user users job place at)))
+users_without-at (user ∷ users) job (suc index) up at =
+    let other : eqb user.job job ≡ false = ne_eqb _ _ (first_apart user users job index up at) in
+    rw other (ap (λ (us : List User). user ∷ us) (users_without-at users job index (ascending_tail user users up) (at_tail user users job index at)))

@@ -7,7 +7,7 @@ use Rattle.std.proofs.lemmas.List.Elements.{All-nil, All-cons, All-head, All-tai
 use Rattle.gv_buffers.specs.declared.usage.Usage.{Usage}
 use Rattle.gv_buffers.specs.declared.usage.Usage.TheVariants.{Read, Write}
 use Rattle.gv_buffers.specs.declared.usage.User.{User}
-use Rattle.gv_buffers.specs.Users.{is_write, stronger, conflicts, conflict, joined, left, AreCompatible, HaveNoConflict}
+use Rattle.gv_buffers.specs.Users.{is_write, stronger, conflicts, conflict, joined, users_without, AreCompatible, HaveNoConflict}
 
 -- no user of the list conflicts with such a use
 abbrev pub AreHarmless : ℕ → Usage → List User → Type 0
@@ -40,12 +40,12 @@ pub no_pairs : HaveNoConflict []
 no_pairs i j d up within = absurd (omega arith)
 
 -- a job that left conflicts with none
-pub HaveNoConflict-left : (job : ℕ) (users : List User) → HaveNoConflict users → HaveNoConflict (left job users)
-HaveNoConflict-left job [] pairs = no_pairs
-HaveNoConflict-left job (user ∷ users) pairs =
-    let tail : HaveNoConflict (left job users) = HaveNoConflict-left job users (pairs_tail user users pairs) in
-    elim (not (eqb user.job job)) as (λ t. HaveNoConflict (cond t (user ∷ left job users) (left job users))) [
-      | true ↦ pairs-cons user (left job users) (All-filter (λ u. not (eqb u.job job)) (AreCompatible user) users (pairs_head user users pairs)) tail
+pub HaveNoConflict-users_without : (job : ℕ) (users : List User) → HaveNoConflict users → HaveNoConflict (users_without job users)
+HaveNoConflict-users_without job [] pairs = no_pairs
+HaveNoConflict-users_without job (user ∷ users) pairs =
+    let tail : HaveNoConflict (users_without job users) = HaveNoConflict-users_without job users (pairs_tail user users pairs) in
+    elim (not (eqb user.job job)) as (λ t. HaveNoConflict (cond t (user ∷ users_without job users) (users_without job users))) [
+      | true ↦ pairs-cons user (users_without job users) (All-filter (λ u. not (eqb u.job job)) (AreCompatible user) users (pairs_head user users pairs)) tail
       | false ↦ tail
     ]
 

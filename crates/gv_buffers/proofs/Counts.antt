@@ -1,4 +1,4 @@
--- What an id tells of its buffer, where others are made or destroyed, or a job joins or leaves.
+-- The counts and the size of a buffer stay where others are made or destroyed, or jobs join or leave.
 use Rattle.std.proofs.Common.{◌≡◌, ◌≢◌, ℕ, List, [], ◌∷◌, true, false, cond, eqb, refl, subst, ◌∙◌, ap, Some, None, Option}
 use Rattle.std.specs.Option.{option_map}
 use Rattle.std.specs.List.{All, find}

@@ -4,7 +4,7 @@ use Rattle.std.specs.Option.{option_map}
 use Rattle.std.proofs.lemmas.Bool.{cases_eq}
 use Rattle.std.proofs.lemmas.List.Elements.{Contains-push_cases}
 use Rattle.gv_buffers.specs.declared.usage.User.{User}
-use Rattle.gv_buffers.specs.Users.{left}
+use Rattle.gv_buffers.specs.Users.{users_without}
 use Rattle.gv_buffers.specs.Buffers.{Buffer, left_by}
 use Rattle.gv_buffers.specs.Slots.{SlotList, get, buffer_at, buffer_in, IsLeftOrSame}
 
@@ -13,16 +13,16 @@ pub record HaveLeft (job : ℕ) (old new : SlotList) (indices : List ℕ) : Type
   pub noted : (index : ℕ) → Contains indices index → buffer_in new index ≡ option_map (left_by job) (buffer_in old index)
   pub others : (index : ℕ) → IsLeftOrSame job old new index
 
-pub left-left : (job : ℕ) (users : List User) → left job (left job users) ≡ left job users
-left-left job [] = refl
-left-left job (user ∷ users) =
-    elim (not (eqb user.job job)) as (λ t. t ≡ not (eqb user.job job) → left job (cond t (user ∷ left job users) (left job users)) ≡ cond t (user ∷ left job users) (left job users))
-    [ true ↦ (λ e. rw (← e, left-left job users) refl) | false ↦ (λ e. left-left job users) ] refl
+pub users_without-twice : (job : ℕ) (users : List User) → users_without job (users_without job users) ≡ users_without job users
+users_without-twice job [] = refl
+users_without-twice job (user ∷ users) =
+    elim (not (eqb user.job job)) as (λ t. t ≡ not (eqb user.job job) → users_without job (cond t (user ∷ users_without job users) (users_without job users)) ≡ cond t (user ∷ users_without job users) (users_without job users))
+    [ true ↦ (λ e. rw (← e, users_without-twice job users) refl) | false ↦ (λ e. users_without-twice job users) ] refl
 
 -- to leave twice is to leave once
 pub left_by-left_by : (job : ℕ) (o : Option Buffer) → option_map (left_by job) (option_map (left_by job) o) ≡ option_map (left_by job) o
 left_by-left_by job None = refl
-left_by-left_by job (Some b) = rw left-left refl
+left_by-left_by job (Some b) = rw users_without-twice refl
 
 -- one more index
 pub HaveLeft-more : (job : ℕ) (old mid new : SlotList) (indices : List ℕ) (index : ℕ) → HaveLeft job old mid indices →

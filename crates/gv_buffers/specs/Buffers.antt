@@ -12,7 +12,7 @@ use Rattle.gv_buffers.specs.declared.counter.Counter.{Counter}
 use Rattle.gv_buffers.specs.declared.counter.Counter.TheVariants.{Uses, Kept}
 use Rattle.gv_buffers.specs.declared.usage.Usage.{Usage}
 use Rattle.gv_buffers.specs.declared.usage.User.{User}
-use Rattle.gv_buffers.specs.Users.{conflict, joined, left, HaveNoConflict}
+use Rattle.gv_buffers.specs.Users.{conflict, joined, users_without, HaveNoConflict}
 
 -- a live buffer: how many mappings of it are in the list and in undo values, and the jobs that use it
 pub record Buffer : Type 0 where
@@ -177,7 +177,7 @@ joined_by job usage b = record b { users = joined job usage b.users }
 
 -- a buffer that a job left
 abbrev pub left_by : ℕ → Buffer → Buffer
-left_by job b = record b { users = left job b.users }
+left_by job b = record b { users = users_without job b.users }
 
 -- the table once a job has left every buffer
 abbrev pub left_everywhere : ℕ → BuffersState → BuffersState

@@ -1,6 +1,6 @@
 pub mod Users
 pub mod Ascending
-pub mod Places
+pub mod FirstPages
 pub mod Buffers
 pub mod Slots
 pub mod Indices

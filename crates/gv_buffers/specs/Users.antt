@@ -30,8 +30,8 @@ joined job usage (user ∷ users) =
     else user ∷ joined job usage users
 
 -- the users without a job
-abbrev pub left : ℕ → List User → List User
-left job = filter (λ user. not (user.job == job))
+abbrev pub users_without : ℕ → List User → List User
+users_without job = filter (λ user. not (user.job == job))
 
 -- two users of one buffer: different jobs, neither of which writes
 pub record AreCompatible (a b : User) : Type 0 where

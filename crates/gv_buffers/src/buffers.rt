@@ -110,7 +110,7 @@ impl Buffers {
         if let Some(fault) = self.create_fault(pages) {
             return Err(fault);
         }
-        let index = self.slots.next_slot()?;
+        let index = self.slots.reserve_next()?;
         let generation = self.made;
         let buffer = LiveBuffer {
             generation: Generation::new(generation),
@@ -185,7 +185,7 @@ impl Buffers {
 
     /// One mapping leaves the list and comes into an undo value. It takes no memory.
     #[inline(always)]
-    pub fn take_out(&mut self, id: BufferId)
+    pub fn count_taken_out(&mut self, id: BufferId)
         requires used { IsSomeAnd (uses self.old id) (λ count. 0 < count) }
         requires room { IsSomeAnd (kept self.old id) (λ count. count < most_counted) }
         ensures { self.new ≡ changed id taken_out self.old }
@@ -195,7 +195,7 @@ impl Buffers {
 
     /// One mapping comes back into the list out of an undo value. It takes no memory.
     #[inline(always)]
-    pub fn bring_back(&mut self, id: BufferId)
+    pub fn count_brought_back(&mut self, id: BufferId)
         requires room { IsSomeAnd (uses self.old id) (λ count. count < most_counted) }
         requires kept { IsSomeAnd (kept self.old id) (λ count. 0 < count) }
         ensures { self.new ≡ changed id brought_back self.old }
@@ -262,7 +262,8 @@ impl Buffers {
         if let Some(job) = slot.users.conflict(job, usage) {
             return Err(Fault::Conflict { job });
         }
-        self.slots.make_room(alloc, &mut self.indices, index, job)?;
+        self.slots
+            .reserve_user(alloc, &mut self.indices, index, job)?;
         self.slots.join(index, job, usage);
         Ok(())
     }

@@ -4,16 +4,16 @@
 
 mod buffers;
 mod counter;
+mod first_page_table;
+mod first_pages;
 mod indices;
 pub mod laws;
 mod live_buffer;
-mod place_table;
-mod places;
 mod slots;
 mod usage;
 mod users;
 
 pub use buffers::Buffers;
-pub use place_table::PlaceTable;
+pub use first_page_table::FirstPageTable;
 pub use usage::{Usage, User};
 pub use users::Users;

@@ -1,4 +1,4 @@
-//! The indices of live buffers.
+//! The live buffer at each index, and the vacant indices.
 ghost use Rattle.std.specs.Prelude.{◌≡◌, ◌≢◌, ◌+◌, ◌<◌, ◌≤◌, ◌∷◌, ◌^◌, ℕ, Contains, IfOk, OnOk, IsOkUnless};
 ghost use Rattle.std.specs.Prelude.{Some, None, false, length, reverse, drop, slice_get, unwrap_or};
 ghost use Rattle.std.specs.Prelude.{IsSomeAnd, vec_len, vec_capacity};
@@ -40,7 +40,7 @@ impl Slots {
     /// The index of the next buffer, with room for it there: the index that was left last, else the first that never had a
     /// buffer. `OutOfMemory` where the system refuses that room, which doubles, and where no index can number the slot.
     /// No limit asks for as many.
-    pub fn next_slot(&mut self) -> Result<u32, Fault>
+    pub fn reserve_next(&mut self) -> Result<u32, Fault>
         ensures index { IfOk result (λ index. index ≡ next_slot self.old.entries.items self.old.vacant.items) }
         ensures room { OnOk result (vec_len self.new.vacant ≡ 0 → vec_len self.new.entries < vec_capacity self.new.entries) }
         ensures kept { length self.old.entries.items ≤ vec_capacity self.old.vacant
@@ -134,7 +134,7 @@ impl Slots {
     }
 
     /// Makes room for a job among the users of the buffer at an index, and notes the index for the job, where it is no user yet.
-    pub fn make_room(
+    pub fn reserve_user(
         &mut self,
         alloc: Global,
         indices: &mut Indices,
@@ -150,7 +150,7 @@ impl Slots {
         ensures length { length self.new.entries.items ≡ length self.old.entries.items }
         ensures vacant { self.new.vacant ≡ self.old.vacant }
     {
-        if make_room_in(&mut self.entries[index as usize], job)? {
+        if reserve_user_in(&mut self.entries[index as usize], job)? {
             note(alloc, indices, job, index)?;
         }
         Ok(())
@@ -209,7 +209,7 @@ fn count_move_in(slot: &mut Option<LiveBuffer>, how: Move)
 }
 
 /// Makes room for a job among the users of the buffer in a slot. Whether it is no user yet.
-fn make_room_in(slot: &mut Option<LiveBuffer>, job: u64) -> Result<bool, AllocError>
+fn reserve_user_in(slot: &mut Option<LiveBuffer>, job: u64) -> Result<bool, AllocError>
     ensures same { (index : ℕ) → option_map (buffer_at index) slot.new ≡ option_map (buffer_at index) slot.old }
     ensures room { OnOk result (HasRoomForJob job slot.new) }
     ensures user { IfOk result (λ is_new. is_new ≡ false → IsUserIn job slot.old) }

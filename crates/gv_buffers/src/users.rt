@@ -1,7 +1,7 @@
 //! The jobs that use one buffer.
 ghost use Rattle.std.specs.Prelude.{◌≡◌, ◌<◌, ◌==◌, ◌&&◌, [], true, IsNone, position};
 ghost use Rattle.std.specs.Prelude.{vec_len, vec_capacity};
-ghost use Rattle.gv_buffers.specs.Users.{conflict, joined, left, HaveNoConflict};
+ghost use Rattle.gv_buffers.specs.Users.{conflict, joined, users_without, HaveNoConflict};
 ghost use Rattle.gv_buffers.specs.Ascending.{AreAscending, are_below};
 
 use crate::usage::{Usage, User};
@@ -84,7 +84,7 @@ impl Users {
 
     /// Removes the job.
     pub fn leave(&mut self, job: u64)
-        ensures without { self.new.list.items ≡ left job self.old.list.items }
+        ensures without { self.new.list.items ≡ users_without job self.old.list.items }
         ensures in_order_again { self.new.list.items ≡ [] → self.new.ascending ≡ true }
     {
         if !self.ascending {

@@ -1,6 +1,6 @@
 -- What a handle is made of, and the two cases of it. Assumes `Logic`.
---     R, Z, LZ     the rows of `Held` and of the allocator, and the allocator's laws.        Loose     the row of a box of a world, taken apart
---     slot_cases   a proof's step: what a handle owns, at null and at a world
+--     R, Z, LZ     the rows of `Held` and of the allocator, and the allocator's laws.        RawBox     the row of a box of a world, taken apart
+--     handle_cases   a proof's step: what a handle owns, at null and at a world
 use Rattle.std.proofs.Common.{◌≡◌, ℕ, List, ◌∷◌, refl}
 use seplogic.Ra.Ura.{Ura}
 use mir.Raw.{raw as bare}
@@ -22,9 +22,9 @@ use Rattle.std.specs.contracts.alloc.Global as heap
 use Rattle.std.proofs.alloc.Global.TheLaws as heap_laws
 use Rattle.std.specs.contracts.impls.GlobalAllocator.TheImpl.{ghosts}
 use Rattle.std_alloc.specs.Box.Ownership.{box_owns}
-use Rattle.gv_c.specs.Slots.{slot_owns}
+use Rattle.gv_c.specs.HandleOwnership.{handle_owns}
 use Rattle.gv_c.specs.contracts.held.Held as held
-use Rattle.gv_c.specs.contracts.loose.Loose as loose
+use Rattle.gv_c.specs.contracts.raw_box.RawBox as raw_box
 
 abbrev pub R : RattleType
 R = held.the_row
@@ -35,8 +35,8 @@ Z = heap.the_row
 abbrev pub LZ : Laws Z
 LZ = heap_laws.the_row_laws
 
-abbrev pub Loose : RattleType
-Loose = loose.the_row R Z ghosts
+abbrev pub RawBox : RattleType
+RawBox = raw_box.the_row R Z ghosts
 
 -- the world at p, and the right to free its block
 abbrev pub boxed : Global → Ptr → R.Denot → Fml
@@ -50,12 +50,12 @@ testable {𝓤 = 𝓤} 𝓛 a p x =
 
 module _ {M : Type 1} {𝓤 : Ura M} {𝓛 : Logic 𝓤} {K : Type 0} {Γ : List (Item 𝓤)} {G : Goal 𝓤 𝓛.H} where
   -- a handle is null, or there is a world, at a pointer into a block
-  pub slot_cases : K → (a : Global) (p : Ptr) (k : Option R.Denot)
+  pub handle_cases : K → (a : Global) (p : Ptr) (k : Option R.Denot)
       → (k ≡ None → p ≡ null_ptr → Seq K 𝓛 Γ G)
       → ((x : R.Denot) (b o : ℕ) → k ≡ Some x → p ≡ block_ptr b o → Testable (block_ptr b o) → Seq K 𝓛 (‵ (boxed a (block_ptr b o) x) ∷ Γ) G)
-      → Seq K 𝓛 (‵ (slot_owns (ghosts.dealloc_token a) R p k) ∷ Γ) G
-  slot_cases t a p None null there = feq_l t (λ e. null refl e)
-  slot_cases t a p (Some x) null there =
+      → Seq K 𝓛 (‵ (handle_owns (ghosts.dealloc_token a) R p k) ∷ Γ) G
+  handle_cases t a p None null there = feq_l t (λ e. null refl e)
+  handle_cases t a p (Some x) null there =
       in_a_block t p (λ q. boxed a q x) (fst∗ 𝓤 (never 𝓤) (sem 𝓛 (ghosts.dealloc_token a (bare (lone R.mir)) null_ptr))) (λ b o e.
       use1 𝓛 (given (Testable (block_ptr b o)) (‵ (boxed a (block_ptr b o) x))) (testable 𝓛 a (block_ptr b o) x) $
       learn t (λ tests. there x b o refl e tests))

@@ -1,5 +1,5 @@
 pub mod Pairs
 pub mod Handles
 pub mod Written
-pub mod ReadingLemmas
+pub mod ListReadLemmas
 pub mod Planning

@@ -1,8 +1,8 @@
 -- A pointer beside an allocator: how a struct of the two, or a tuple, is stored, taken apart and made. Assumes `Logic`.
 --     shape, Pair         the struct of a pointer and an allocator
 --     both, both_good     the machine value of two fields, and that it has its type
---     at_words            what is owned at machine values is owned at equal ones
---     word_of             a proof's step: what is owned at an allocator, or at a box, is one machine value
+--     at_values           what is owned at machine values is owned at equal ones
+--     one_value           a proof's step: what is owned at an allocator, or at a box, is one machine value
 --     pair_out, pair_in   proof's steps: of a pointer and an allocator only the allocator owns something, and back
 use Rattle.std.proofs.Common.{◌≡◌, List, [], ◌∷◌, ◌++◌, refl, ◌∙◌, sym, subst}
 use mathlib.Core.Bool.{Bool, true, false, ◌&&◌}
@@ -34,8 +34,8 @@ all_true true false s t = absurd t
 all_true false y s t = absurd s
 
 -- what is owned at machine values is owned at equal ones
-pub at_words : {M : Type 1} (𝓤 : Ura M) (P : List Val → SProp 𝓤) {vs ws : List Val} → vs ≡ ws → ent 𝓤 (P ws) (P vs)
-at_words 𝓤 P {ws = ws} e = subst (λ us. ent 𝓤 (P ws) (P us)) (sym e) (id⊢ 𝓤 (P ws))
+pub at_values : {M : Type 1} (𝓤 : Ura M) (P : List Val → SProp 𝓤) {vs ws : List Val} → vs ≡ ws → ent 𝓤 (P ws) (P vs)
+at_values 𝓤 P {ws = ws} e = subst (λ us. ent 𝓤 (P ws) (P us)) (sym e) (id⊢ 𝓤 (P ws))
 
 module _ (Z : RattleType) where
   abbrev pub shape : Shape
@@ -48,8 +48,8 @@ module _ (Z : RattleType) where
   both_good p h good = (all_true _ _ (Ptr-Good p).0 good.0, ((Ptr-Good p).1, (good.1, tt)))
 
 module _ (Z : RattleType) (LZ : Laws Z) {M : Type 1} {𝓤 : Ura M} {𝓛 : Logic 𝓤} {K : Type 0} {Γ : List (Item 𝓤)} {G : Goal 𝓤 𝓛.H} where
-  pub word_of : K → (a : Z.Denot) (vs : List Val) → ((h : Val) → vs ≡ h ∷ [] → Good (layout Z) h → Seq K 𝓛 (‵ (Z.own_val a (h ∷ [])) ∷ Γ) G) → Seq K 𝓛 (‵ (Z.own_val a vs) ∷ Γ) G
-  word_of t a vs next =
+  pub one_value : K → (a : Z.Denot) (vs : List Val) → ((h : Val) → vs ≡ h ∷ [] → Good (layout Z) h → Seq K 𝓛 (‵ (Z.own_val a (h ∷ [])) ∷ Γ) G) → Seq K 𝓛 (‵ (Z.own_val a vs) ∷ Γ) G
+  one_value t a vs next =
       peeks t (param 0 Z) (Is (param 0 Z)) (shows 𝓛 (param 0 Z)) a vs (λ is.
       let w = one (layout Z) vs (((param_laws 0 Z LZ).lawful 𝓛).typed a vs is) in
       rewrite t 0 (λ (us : List Val). ‵ (Z.own_val a us)) w.1 refl $ next w.0 w.1 w.2)
@@ -59,7 +59,7 @@ module _ (Z : RattleType) (LZ : Laws Z) {M : Type 1} {𝓤 : Ura M} {𝓛 : Logi
       → Seq K 𝓛 (‵ ((Pair Z).own_val (p, (a, tt)) vs) ∷ Γ) G
   pair_out t p a vs next =
       fpick t (λ vss. fsplit t $ feq_l t (λ ev. fsplit t $ feq_l t (λ ep. fsplit t $ move t (1 ∷ []) $ drop t $
-      word_of t a vss.1.0 (λ h eh good. next h (ev ∙ (λ i. vstruct (of_list (ep i ++ (eh i ++ []))) ∷ [])) good))))
+      one_value t a vss.1.0 (λ h eh good. next h (ev ∙ (λ i. vstruct (of_list (ep i ++ (eh i ++ []))) ∷ [])) good))))
 
   pub pair_in : K → (p : Ptr) (a : Z.Denot) (h : Val) → Step K 𝓛 (‵ ((Pair Z).own_val (p, (a, tt)) (both (ptr_val p) h ∷ [])) ∷ Γ) G (‵ (Z.own_val a (h ∷ [])) ∷ Γ) G
   pair_in t p a h = step (λ s. let v : Val = both (ptr_val p) h in

@@ -1,4 +1,4 @@
--- What a plan comes to.
+-- What `vmbind_plan` writes: an operation's split steps, or its fault.
 use Rattle.std.proofs.Common.{◌≡◌, ℕ, ◌<◌, List, length, map, Option, Some, None, Result, Ok, Err, MatchOption, IsOkUnless, Vec, inl, inr, refl, ap, subst}
 use Rattle.std.specs.declared.alloc.Global.{Global}
 use Rattle.gv_types.specs.Fault.{number_of}
@@ -11,7 +11,7 @@ use Rattle.gv_split.specs.declared.step.Step.{Step}
 use Rattle.gv_space.specs.State.{SpaceState}
 use Rattle.gv_c.specs.Lists.{IsWritten, ArePlanned}
 use Rattle.gv_c.specs.Values.{c_step}
-use Rattle.gv_c.specs.declared.found.SplitStep.{SplitStep}
+use Rattle.gv_c.specs.declared.space_values.SplitStep.{SplitStep}
 
 pub planned_ok : (s : SpaceState) (op : Op) (o : Option Fault) (list : Vec Step Global) (old new : List SplitStep) (count total : ℕ) →
     MatchOption o (IsOkUnless {T = Vec Step Global} {E = Fault} (Ok list) OutOfMemory) (λ fault. ◌≡◌ {A = Result (Vec Step Global) Fault} (Ok list) (Err fault)) →

@@ -14,7 +14,7 @@ use Rattle.gv_vm.specs.declared.event.Event.TheVariants.{Put as ToPut, JobBegin}
 use Rattle.gv_vm.specs.declared.event.Reply.{Reply}
 use Rattle.gv_vm.specs.declared.event.Reply.TheVariants.{Put as IsPut, NotPut}
 use Rattle.gv_vm.specs.declared.jobs.Access.{Access}
-use Rattle.gv_vm.specs.declared.world.turn.Turn.{Turn}
+use Rattle.gv_vm.specs.declared.world.turn.TurnResult.{TurnResult}
 use Rattle.gv_c.specs.Calls.{Answers, number_in, turned}
 use Rattle.gv_c.specs.Statuses.{ok, out_of_memory, bad_argument, no_vm, status_of, turn_status}
 use Rattle.gv_c.specs.Values.{no_outcome, all_of, ops_of, point_of}
@@ -73,7 +73,7 @@ IsSubmitted c (Some old) status number (Some new) =
 abbrev pub IsServedAfter : ℕ → Result ℕ ℕ → WorldState → ℕ → RequestOutcome → WorldState → Type 0
 IsServedAfter queue (Err why) old status outcome new = (status ≡ why) × (outcome ≡ no_outcome) × (new ≡ old)
 IsServedAfter queue (Ok number) old status outcome new =
-    (turn : Result Turn WantOfMemory) × IsServedUpTo queue number old turn new × (status ≡ turn_status turn) × (outcome ≡ turned number turn)
+    (turn : Result TurnResult WantOfMemory) × IsServedUpTo queue number old turn new × (status ≡ turn_status turn) × (outcome ≡ turned number turn)
 
 abbrev pub IsBound : BindRequest → Option Held → ℕ → RequestOutcome → Option Held → Type 0
 IsBound c None status outcome new = (status ≡ no_vm) × (outcome ≡ no_outcome) × (new ≡ None)
@@ -87,7 +87,7 @@ IsServed queue flags None status outcome new = (status ≡ no_vm) × (outcome �
 IsServed queue flags (Some old) status outcome None = ⊥
 IsServed queue flags (Some old) status outcome (Some new) =
     either (nat_lt queue (length old.world.queues) && nat_le flags 1)
-    ((turn : Result Turn WantOfMemory) × IsTurn (flags == 1) queue old.world turn new.world
+    ((turn : Result TurnResult WantOfMemory) × IsTurn (flags == 1) queue old.world turn new.world
     × (status ≡ turn_status turn) × (outcome ≡ turned (next_number old.world queue) turn))
     ((status ≡ bad_argument) × (outcome ≡ no_outcome) × (new ≡ old))
 

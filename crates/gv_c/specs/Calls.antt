@@ -6,8 +6,8 @@ use Rattle.gv_vm.specs.Step.{IsStep}
 use Rattle.gv_vm.specs.declared.event.Event.{Event}
 use Rattle.gv_vm.specs.declared.event.Reply.{Reply}
 use Rattle.gv_vm.specs.declared.event.Reply.TheVariants.{Created, Put, Rewound, Withdrawn, Settled, Forgot, Raised, Begun, Refused}
-use Rattle.gv_vm.specs.declared.world.turn.Turn.{Turn}
-use Rattle.gv_vm.specs.declared.world.turn.Turn.TheVariants.{Told, Waits, Idle}
+use Rattle.gv_vm.specs.declared.world.turn.TurnResult.{TurnResult}
+use Rattle.gv_vm.specs.declared.world.turn.TurnResult.TheVariants.{Told, Waits, Idle}
 use Rattle.gv_c.specs.Statuses.{Answer}
 use Rattle.gv_c.specs.Values.{c_buffer, no_buffer, c_outcome, no_outcome, pending, c_point}
 use Rattle.gv_c.specs.declared.held.Held.{Held}
@@ -46,7 +46,7 @@ number_in (Some (Ok reply)) = number_said reply
 number_in answer = 0
 
 -- what a turn came to, where the request that it is asked for has this number
-abbrev pub turned : ℕ → Result Turn WantOfMemory → RequestOutcome
+abbrev pub turned : ℕ → Result TurnResult WantOfMemory → RequestOutcome
 turned number (Ok (Told told outcome)) = c_outcome told outcome
 turned number (Ok (Waits point have)) = record (pending number) { point = c_point point; have = have }
 turned number (Ok Idle) = no_outcome

@@ -1,4 +1,4 @@
-pub mod Slots
+pub mod HandleOwnership
 pub mod Values
 pub mod Statuses
 pub mod Calls

@@ -14,8 +14,8 @@ use Rattle.gv_space.specs.State.{SpaceState}
 use Rattle.gv_vm.specs.declared.outcome.Outcome.{Outcome}
 use Rattle.gv_c.specs.Statuses.{ok, out_of_memory, bad_argument, no_vm}
 use Rattle.gv_c.specs.Values.{c_outcome, c_mapping, c_step, op_of}
-use Rattle.gv_c.specs.declared.found.ListedMapping.{ListedMapping}
-use Rattle.gv_c.specs.declared.found.SplitStep.{SplitStep}
+use Rattle.gv_c.specs.declared.space_values.ListedMapping.{ListedMapping}
+use Rattle.gv_c.specs.declared.space_values.SplitStep.{SplitStep}
 use Rattle.gv_c.specs.declared.held.Held.{Held}
 use Rattle.gv_c.specs.declared.outcome.RequestOutcome.{RequestOutcome}
 use Rattle.gv_c.specs.declared.values.Operation.{Operation}

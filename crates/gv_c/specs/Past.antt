@@ -5,7 +5,7 @@ use Rattle.gv_vm.specs.declared.vm.past.PastItem.{PastItem}
 use Rattle.gv_c.specs.Lists.{IsWritten, IsNotWritten}
 use Rattle.gv_c.specs.Statuses.{ok, out_of_memory, no_vm}
 use Rattle.gv_c.specs.Values.{c_place, bit}
-use Rattle.gv_c.specs.declared.found.Translation.{Translation}
+use Rattle.gv_c.specs.declared.space_values.Translation.{Translation}
 use Rattle.gv_c.specs.declared.held.Held.{Held}
 use Rattle.gv_c.specs.declared.past.PastEntry.{PastEntry}
 

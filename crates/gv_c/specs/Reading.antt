@@ -11,9 +11,9 @@ use Rattle.gv_vm.specs.Places.{place_at, run_of}
 use Rattle.gv_vm.specs.QueueTurns.{either}
 use Rattle.gv_c.specs.Statuses.{ok, bad_argument, no_vm}
 use Rattle.gv_c.specs.Values.{c_place, no_uses}
-use Rattle.gv_c.specs.declared.found.BufferUses.{BufferUses}
-use Rattle.gv_c.specs.declared.found.TableCounts.{TableCounts}
-use Rattle.gv_c.specs.declared.found.Translation.{Translation}
+use Rattle.gv_c.specs.declared.space_values.BufferUses.{BufferUses}
+use Rattle.gv_c.specs.declared.space_values.TableCounts.{TableCounts}
+use Rattle.gv_c.specs.declared.space_values.Translation.{Translation}
 use Rattle.gv_c.specs.declared.held.Held.{Held}
 
 -- where an address leads by a list of mappings, and for how many bytes

@@ -6,8 +6,8 @@ use Rattle.gv_vm.specs.declared.event.Reply.{Reply}
 use Rattle.gv_vm.specs.declared.event.Reply.TheVariants.{Idle, NotPut, Refused}
 use Rattle.gv_vm.specs.declared.outcome.Outcome.{Outcome}
 use Rattle.gv_vm.specs.declared.outcome.Outcome.TheVariants.{Accepted, NotReady, Refused as RefusedAt}
-use Rattle.gv_vm.specs.declared.world.turn.Turn.{Turn}
-use Rattle.gv_vm.specs.declared.world.turn.Turn.TheVariants.{Told, Waits, Idle as NothingToDo}
+use Rattle.gv_vm.specs.declared.world.turn.TurnResult.{TurnResult}
+use Rattle.gv_vm.specs.declared.world.turn.TurnResult.TheVariants.{Told, Waits, Idle as NothingToDo}
 
 -- those that are no fault's number
 abbrev pub ok : ℕ
@@ -51,7 +51,7 @@ outcome_status (Accepted entry) = ok
 outcome_status (RefusedAt op fault) = number_of fault
 outcome_status (NotReady point have) = not_ready
 
-abbrev pub turn_status : Result Turn WantOfMemory → ℕ
+abbrev pub turn_status : Result TurnResult WantOfMemory → ℕ
 turn_status (Ok (Told number outcome)) = outcome_status outcome
 turn_status (Ok (Waits point have)) = not_ready
 turn_status (Ok NothingToDo) = idle

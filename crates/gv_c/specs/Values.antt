@@ -22,10 +22,10 @@ use Rattle.gv_vm.specs.declared.places.Target.TheVariants.{Buffer as IsOfBuffer,
 use Rattle.gv_c.specs.declared.values.Buffer.{Buffer}
 use Rattle.gv_c.specs.declared.values.Operation.{Operation}
 use Rattle.gv_c.specs.declared.values.SyncPoint.{SyncPoint}
-use Rattle.gv_c.specs.declared.found.Translation.{Translation}
-use Rattle.gv_c.specs.declared.found.ListedMapping.{ListedMapping}
-use Rattle.gv_c.specs.declared.found.SplitStep.{SplitStep}
-use Rattle.gv_c.specs.declared.found.BufferUses.{BufferUses}
+use Rattle.gv_c.specs.declared.space_values.Translation.{Translation}
+use Rattle.gv_c.specs.declared.space_values.ListedMapping.{ListedMapping}
+use Rattle.gv_c.specs.declared.space_values.SplitStep.{SplitStep}
+use Rattle.gv_c.specs.declared.space_values.BufferUses.{BufferUses}
 use Rattle.gv_c.specs.declared.outcome.RequestOutcome.{RequestOutcome}
 
 -- Buffers.

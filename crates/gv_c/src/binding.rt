@@ -1,9 +1,9 @@
-//! Requests: put on a queue, and served.
+//! The C calls that put requests on queues and serve them: `vmbind_bind`, `_submit`, `_serve`.
 ghost use Rattle.std.specs.Prelude.{◌≡◌, Result};
 ghost use Rattle.gv_types.specs.declared.fault.OutOfMemory.{OutOfMemory as Want};
 ghost use Rattle.gv_vm.specs.QueueTurns.{IsTurn};
 ghost use Rattle.gv_vm.specs.World.{next_number};
-ghost use Rattle.gv_vm.specs.declared.world.turn.Turn.{Turn as Came};
+ghost use Rattle.gv_vm.specs.declared.world.turn.TurnResult.{TurnResult as Came};
 ghost use Rattle.gv_c.specs.Binding.{IsBound, IsSubmitted, IsServed, IsPutOf, IsServedAfter};
 ghost use Rattle.gv_c.specs.Calls.{turned};
 ghost use Rattle.gv_c.specs.Statuses.{turn_status};

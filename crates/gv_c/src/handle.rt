@@ -3,11 +3,11 @@ ghost use Rattle.std.specs.Prelude.{◌≡◌, Option, None, Some, MatchOption};
 ghost use Rattle.std.specs.contracts.impls.GlobalAllocator.TheImpl.{ghosts};
 ghost use Rattle.gv_c.specs.contracts.held.Held.{the_row};
 ghost use Rattle.gv_c.specs.declared.held.Held.{Held as HeldWorld};
-ghost use Rattle.gv_c.specs.Slots.{slot_owns};
+ghost use Rattle.gv_c.specs.HandleOwnership.{handle_owns};
 ghost use Rattle.gv_c.specs.Calls.{Steps};
 
 use crate::held::Held;
-use crate::loose::Loose;
+use crate::raw_box::RawBox;
 use gv_types::OutOfMemory;
 use gv_vm::{Event, Reply};
 use std::alloc::Global;
@@ -23,13 +23,13 @@ pub struct Handle {
 }
 
 impl Model for Handle {
-    ghost also_owns = { λ h. slot_owns (ghosts.dealloc_token h.alloc) the_row h.at h.value };
+    ghost also_owns = { λ h. handle_owns (ghosts.dealloc_token h.alloc) the_row h.at h.value };
 }
 
 impl Drop for Handle {
     fn drop(self) {
         match self.unpack() {
-            Some(loose) => drop(loose.into_box()),
+            Some(raw_box) => drop(raw_box.into_box()),
             None => {}
         }
     }
@@ -39,10 +39,10 @@ unsafe impl Send for Handle {}
 
 impl Handle {
     /// A handle of a world whose box was taken apart.
-    fn pack(loose: Loose<Held, Global>) -> Handle
-        ensures { result.value ≡ Some loose.value }
+    fn pack(raw_box: RawBox<Held, Global>) -> Handle
+        ensures { result.value ≡ Some raw_box.value }
     {
-        let Loose { at, alloc } = loose;
+        let RawBox { at, alloc } = raw_box;
         Handle {
             at: at as *mut u8,
             alloc,
@@ -60,14 +60,14 @@ impl Handle {
     }
 
     /// What is there, if it is not null.
-    fn unpack(self) -> Option<Loose<Held, Global>>
+    fn unpack(self) -> Option<RawBox<Held, Global>>
         ensures { MatchOption result (self.value ≡ None) (λ l. self.value ≡ Some l.value) }
     {
         let Handle { at, alloc } = self;
         if at == null_mut() {
             None
         } else {
-            Some(Loose {
+            Some(RawBox {
                 at: at as *mut Held,
                 alloc,
             })
@@ -81,7 +81,7 @@ impl Handle {
     {
         let old = std::mem::replace(self, Handle::none(alloc));
         match old.unpack() {
-            Some(loose) => Some(loose.into_box()),
+            Some(raw_box) => Some(raw_box.into_box()),
             None => None,
         }
     }
@@ -90,7 +90,7 @@ impl Handle {
     pub fn put(&mut self, held: Box<Held>)
         ensures { self.new.value ≡ Some held.value }
     {
-        *self = Handle::pack(Loose::of(held));
+        *self = Handle::pack(RawBox::of(held));
     }
 
     /// Carries out one event on the world that is there. Without a world: None, and nothing changes.

@@ -1,4 +1,4 @@
-//! Jobs begin.
+//! The C call that begins a job.
 ghost use Rattle.std.specs.Prelude.{◌≡◌};
 ghost use Rattle.gv_c.specs.Binding.{AreRead, IsJobBegun, usage_of};
 

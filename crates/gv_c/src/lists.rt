@@ -6,9 +6,9 @@ ghost use Rattle.gv_vm.specs.State.{forgotten_of};
 ghost use Rattle.gv_c.specs.Lists.{IsTold, AreListed, IsPlanned, ArePlanned, IsWritten, numbered, written_over};
 ghost use Rattle.gv_c.specs.Values.{c_mapping, c_step};
 
-use crate::found::{ListedMapping, SplitStep};
 use crate::handle::Handle;
 use crate::outcome::RequestOutcome;
+use crate::space_values::{ListedMapping, SplitStep};
 use crate::status::{BAD_ARGUMENT, NO_VM, OK, of};
 use crate::values::Operation;
 use gv_ranges::{RangeList, Run};

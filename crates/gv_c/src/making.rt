@@ -1,4 +1,4 @@
-//! A world is made, and freed.
+//! The C calls that make a world and free it.
 ghost use Rattle.std.specs.Prelude.{◌≡◌, IfOk, None};
 ghost use Rattle.gv_c.specs.Making.{IsCreated, IsGood, IsNew, destroyed};
 

@@ -5,7 +5,7 @@ ghost use Rattle.gv_c.specs.Calls.{turned};
 
 use crate::values::SyncPoint;
 use gv_types::OutOfMemory;
-use gv_vm::{Outcome, Turn};
+use gv_vm::{Outcome, TurnResult};
 
 /// Kinds of what became of a request: there is no outcome, it is one of three, or the request stays on its queue.
 pub const NOT_PUT: u32 = 0;
@@ -91,17 +91,17 @@ impl RequestOutcome {
     }
 
     /// The result of a turn for the request with this number.
-    pub fn of_turn(number: u64, turn: &Result<Turn, OutOfMemory>) -> RequestOutcome
+    pub fn of_turn(number: u64, turn: &Result<TurnResult, OutOfMemory>) -> RequestOutcome
         ensures { result ≡ turned number turn.now }
     {
         match turn {
-            Ok(Turn::Told { number, outcome }) => RequestOutcome::of(*number, *outcome),
-            Ok(Turn::Waits { point, have }) => RequestOutcome {
+            Ok(TurnResult::Told { number, outcome }) => RequestOutcome::of(*number, *outcome),
+            Ok(TurnResult::Waits { point, have }) => RequestOutcome {
                 point: SyncPoint::of(*point),
                 have: *have,
                 ..RequestOutcome::pending(number)
             },
-            Ok(Turn::Idle) => RequestOutcome::none(),
+            Ok(TurnResult::Idle) => RequestOutcome::none(),
             Err(_) => RequestOutcome::pending(number),
         }
     }

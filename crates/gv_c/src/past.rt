@@ -5,9 +5,9 @@ ghost use Rattle.gv_c.specs.Lists.{IsWritten};
 ghost use Rattle.gv_c.specs.Past.{IsPast, ArePast, IsBase, c_past};
 ghost use Rattle.gv_c.specs.Values.{c_place};
 
-use crate::found::{Translation, bit};
 use crate::handle::Handle;
 use crate::lists::{Listing, fitting};
+use crate::space_values::{Translation, bit};
 use crate::status::{NO_VM, OK, OUT_OF_MEMORY};
 use gv_vm::{PastItem, Vm};
 use std::alloc::Global;

@@ -3,8 +3,8 @@ ghost use Rattle.std.specs.Prelude.{◌≡◌, length, map};
 ghost use Rattle.gv_c.specs.Values.{id_of};
 ghost use Rattle.gv_c.specs.Reading.{found_in, walked_in, look_in, IsFound, AreFound, IsWalked, AreWalked, IsValue, AreUses, uses_in, AreTables, AreEntries};
 
-use crate::found::{BufferUses, TableCounts, Translation};
 use crate::handle::Handle;
+use crate::space_values::{BufferUses, TableCounts, Translation};
 use crate::status::{BAD_ARGUMENT, NO_VM, OK, of};
 use crate::values::Buffer;
 use gv_space::Space;

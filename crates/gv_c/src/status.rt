@@ -4,7 +4,7 @@ ghost use Rattle.gv_types.specs.Fault.{number_of};
 ghost use Rattle.gv_c.specs.Statuses.{status_of, outcome_status, turn_status};
 
 use gv_types::{Fault, OutOfMemory};
-use gv_vm::{Outcome, Reply, Turn};
+use gv_vm::{Outcome, Reply, TurnResult};
 
 /// All went well.
 pub const OK: u32 = 0;
@@ -46,13 +46,13 @@ pub fn of_outcome(outcome: Outcome) -> u32
 }
 
 /// The status of a turn of a queue.
-pub fn of_turn(turn: &Result<Turn, OutOfMemory>) -> u32
+pub fn of_turn(turn: &Result<TurnResult, OutOfMemory>) -> u32
     ensures { result ≡ turn_status turn.now }
 {
     match turn {
-        Ok(Turn::Told { outcome, .. }) => of_outcome(*outcome),
-        Ok(Turn::Waits { .. }) => NOT_READY,
-        Ok(Turn::Idle) => IDLE,
+        Ok(TurnResult::Told { outcome, .. }) => of_outcome(*outcome),
+        Ok(TurnResult::Waits { .. }) => NOT_READY,
+        Ok(TurnResult::Idle) => IDLE,
         Err(_) => OUT_OF_MEMORY,
     }
 }

@@ -77,32 +77,32 @@ first_filled [] e w some_left none = absurd (omega arith)
 first_filled (x ∷ bs) e w some_left none = ap (λ ms. w.items ++ (ms ++ chunks_joined bs)) (sym none)
 
 -- the end of the last chunk of the front cut off
-pub cut_front : (f b bs : List (Vec Mapping)) (n left : ℕ) (d w : Vec Mapping) → length f ≡ n + 1 → left ≤ length (slice_index_or f n d).items →
-    w.items ≡ take left (slice_index_or f n d).items →
-    chunks_joined (take (n + 1) (slice_set f n w ++ bs)) ≡ take (length (chunks_joined (take n (f ++ b))) + left) (chunks_joined (f ++ b))
-cut_front f b bs n left d w size fits is =
+pub cut_front : (f b bs : List (Vec Mapping)) (n offset : ℕ) (d w : Vec Mapping) → length f ≡ n + 1 → offset ≤ length (slice_index_or f n d).items →
+    w.items ≡ take offset (slice_index_or f n d).items →
+    chunks_joined (take (n + 1) (slice_set f n w ++ bs)) ≡ take (length (chunks_joined (take n (f ++ b))) + offset) (chunks_joined (f ++ b))
+cut_front f b bs n offset d w size fits is =
     let within : n < length f = omega arith in
-    let now : chunks_joined (take (n + 1) (slice_set f n w ++ bs)) ≡ chunks_joined (take n f) ++ take left (slice_index_or f n d).items =
+    let now : chunks_joined (take (n + 1) (slice_set f n w ++ bs)) ≡ chunks_joined (take n f) ++ take offset (slice_index_or f n d).items =
     ap chunks_joined (take-append-le (n + 1) (slice_set f n w) bs (omega (arith, length-set f n w)) ∙ take_more_set f n w within)
     ∙ (joined-append (take n f) (w ∷ []) ∙ ap (λ ms. chunks_joined (take n f) ++ ms) (append-nil w.items ∙ is)) in
     let whole : chunks_joined (f ++ b) ≡ chunks_joined (take n f) ++ ((slice_index_or f n d).items ++ chunks_joined b) = joined_around f b n d size in
     let old : take n (f ++ b) ≡ take n f = take-append-le n f b (omega arith) in
-    rw (now, old, whole, take-append-add (chunks_joined (take n f)) ((slice_index_or f n d).items ++ chunks_joined b) left, take-append-le left (slice_index_or f n d).items (chunks_joined b) fits) refl
+    rw (now, old, whole, take-append-add (chunks_joined (take n f)) ((slice_index_or f n d).items ++ chunks_joined b) offset, take-append-le offset (slice_index_or f n d).items (chunks_joined b) fits) refl
 
 -- what was cut off stands in a chunk that held nothing
-pub cut_back : (f b bs fs : List (Vec Mapping)) (n left : ℕ) (d e w : Vec Mapping) → length f ≡ n + 1 → length fs ≡ n + 1 → left ≤ length (slice_index_or f n d).items →
+pub cut_back : (f b bs fs : List (Vec Mapping)) (n offset : ℕ) (d e w : Vec Mapping) → length f ≡ n + 1 → length fs ≡ n + 1 → offset ≤ length (slice_index_or f n d).items →
     0 < length bs → chunks_joined bs ≡ chunks_joined b → (slice_index_or bs 0 e).items ≡ [] →
-    w.items ≡ (slice_index_or bs 0 e).items ++ drop left (slice_index_or f n d).items →
-    chunks_joined (drop (n + 1) (fs ++ slice_set bs 0 w)) ≡ drop (length (chunks_joined (take n (f ++ b))) + left) (chunks_joined (f ++ b))
-cut_back f b bs fs n left d e w size same fits some_left turned none is =
-    let held : w.items ≡ drop left (slice_index_or f n d).items = is ∙ ap (λ ms. ms ++ drop left (slice_index_or f n d).items) none in
-    let now : chunks_joined (drop (n + 1) (fs ++ slice_set bs 0 w)) ≡ drop left (slice_index_or f n d).items ++ chunks_joined b =
-    ap chunks_joined (drop_at fs (slice_set bs 0 w) (n + 1) same) ∙ (first_filled bs e w some_left none ∙ (ap (λ ms. ms ++ chunks_joined bs) held ∙ ap (λ ms. drop left (slice_index_or f n d).items ++ ms) turned)) in
+    w.items ≡ (slice_index_or bs 0 e).items ++ drop offset (slice_index_or f n d).items →
+    chunks_joined (drop (n + 1) (fs ++ slice_set bs 0 w)) ≡ drop (length (chunks_joined (take n (f ++ b))) + offset) (chunks_joined (f ++ b))
+cut_back f b bs fs n offset d e w size same fits some_left rotated none is =
+    let held : w.items ≡ drop offset (slice_index_or f n d).items = is ∙ ap (λ ms. ms ++ drop offset (slice_index_or f n d).items) none in
+    let now : chunks_joined (drop (n + 1) (fs ++ slice_set bs 0 w)) ≡ drop offset (slice_index_or f n d).items ++ chunks_joined b =
+    ap chunks_joined (drop_at fs (slice_set bs 0 w) (n + 1) same) ∙ (first_filled bs e w some_left none ∙ (ap (λ ms. ms ++ chunks_joined bs) held ∙ ap (λ ms. drop offset (slice_index_or f n d).items ++ ms) rotated)) in
     let whole : chunks_joined (f ++ b) ≡ chunks_joined (take n f) ++ ((slice_index_or f n d).items ++ chunks_joined b) = joined_around f b n d size in
     let old : take n (f ++ b) ≡ take n f = take-append-le n f b (omega arith) in
-    rw (now, old, whole, drop-append-add (chunks_joined (take n f)) ((slice_index_or f n d).items ++ chunks_joined b) left, drop-append-le left (slice_index_or f n d).items (chunks_joined b) fits) refl
+    rw (now, old, whole, drop-append-add (chunks_joined (take n f)) ((slice_index_or f n d).items ++ chunks_joined b) offset, drop-append-le offset (slice_index_or f n d).items (chunks_joined b) fits) refl
 
--- chunks turned, so that the last ones, which hold nothing, come first
+-- chunks rotated, so that the last ones, which hold nothing, come first
 pub turned_joined : (b : List (Vec Mapping)) (m : ℕ) → chunks_joined (drop m b) ≡ [] → chunks_joined (drop m b ++ take m b) ≡ chunks_joined b
 turned_joined b m none =
     joined-append (drop m b) (take m b) ∙ (ap (λ ms. ms ++ chunks_joined (take m b)) none
@@ -128,7 +128,7 @@ appended_chunks xs ys front back = All-append (λ chunk. vec_capacity chunk ≡ 
 pub changed_chunks : (xs : List (Vec Mapping)) (i : ℕ) (w : Vec Mapping) → vec_capacity w ≡ CHUNK → AreChunks xs → AreChunks (slice_set xs i w)
 changed_chunks xs i w room all = All-set (λ chunk. vec_capacity chunk ≡ CHUNK) xs i w room all
 
--- chunks turned are chunks
+-- chunks rotated are chunks
 pub turned_chunks : (xs ys : List (Vec Mapping)) (m : ℕ) → ys ≡ drop m xs ++ take m xs → AreChunks xs → AreChunks ys
 turned_chunks xs ys m is all = rw is (appended_chunks (drop m xs) (take m xs) (dropped_chunks m xs all) (taken_chunks m xs all))
 
@@ -143,38 +143,38 @@ joined_set xs i w within =
     ap chunks_joined (set_split xs i w within) ∙ (joined-append (take i xs) (w ∷ drop (suc i) xs) ∙ ap (λ k. chunks_joined (take i xs) ++ (w.items ++ chunks_joined (drop k xs))) (sym (add-one i)))
 
 -- a list with a run of its middle replaced
-pub spliced : (front v back w pieces : List Mapping) (left count : ℕ) (old new : List Mapping) → old ≡ front ++ (v ++ back) → new ≡ front ++ (w ++ back) →
-    w ≡ splice v left (left + count) pieces → take (length front + left) (front ++ (v ++ back)) ≡ front ++ take left v →
-    drop (length front + left + count) (front ++ (v ++ back)) ≡ drop (left + count) v ++ back →
-    new ≡ splice old (length front + left) (length front + left + count) pieces
-spliced front v back w pieces left count old new whole now is before behind =
+pub spliced : (front v back w pieces : List Mapping) (offset count : ℕ) (old new : List Mapping) → old ≡ front ++ (v ++ back) → new ≡ front ++ (w ++ back) →
+    w ≡ splice v offset (offset + count) pieces → take (length front + offset) (front ++ (v ++ back)) ≡ front ++ take offset v →
+    drop (length front + offset + count) (front ++ (v ++ back)) ≡ drop (offset + count) v ++ back →
+    new ≡ splice old (length front + offset) (length front + offset + count) pieces
+spliced front v back w pieces offset count old new whole now is before behind =
     rw (now, is, whole, before, behind) (
-    ap (λ ms. front ++ ms) (append_assoc (take left v) (pieces ++ drop (left + count) v) back ∙ ap (λ ms. take left v ++ ms) (append_assoc pieces (drop (left + count) v) back))
-    ∙ sym (append_assoc front (take left v) (pieces ++ (drop (left + count) v ++ back)))
+    ap (λ ms. front ++ ms) (append_assoc (take offset v) (pieces ++ drop (offset + count) v) back ∙ ap (λ ms. take offset v ++ ms) (append_assoc pieces (drop (offset + count) v) back))
+    ∙ sym (append_assoc front (take offset v) (pieces ++ (drop (offset + count) v ++ back)))
     )
 
 -- a run replaced within a chunk is replaced in the list
-pub replaced_at : (xs : List (Vec Mapping)) (i left count : ℕ) (d w : Vec Mapping) (pieces : List Mapping) → i < length xs →
-    left + count ≤ length (slice_index_or xs i d).items → w.items ≡ splice (slice_index_or xs i d).items left (left + count) pieces →
-    chunks_joined (slice_set xs i w) ≡ splice (chunks_joined xs) (length (chunks_joined (take i xs)) + left) (length (chunks_joined (take i xs)) + left + count) pieces
-replaced_at xs i left count d w pieces within fits is =
+pub replaced_at : (xs : List (Vec Mapping)) (i offset count : ℕ) (d w : Vec Mapping) (pieces : List Mapping) → i < length xs →
+    offset + count ≤ length (slice_index_or xs i d).items → w.items ≡ splice (slice_index_or xs i d).items offset (offset + count) pieces →
+    chunks_joined (slice_set xs i w) ≡ splice (chunks_joined xs) (length (chunks_joined (take i xs)) + offset) (length (chunks_joined (take i xs)) + offset + count) pieces
+replaced_at xs i offset count d w pieces within fits is =
     let v : List Mapping = (slice_index_or xs i d).items in
     let front : List Mapping = chunks_joined (take i xs) in
     let back : List Mapping = chunks_joined (drop (i + 1) xs) in
     let whole : chunks_joined xs ≡ front ++ (v ++ back) = joined_at xs i d within in
     let now : chunks_joined (slice_set xs i w) ≡ front ++ (w.items ++ back) = joined_set xs i w within in
-    let before : take (length front + left) (front ++ (v ++ back)) ≡ front ++ take left v =
-    take-append-add front (v ++ back) left ∙ ap (λ ms. front ++ ms) (take-append-le left v back (omega arith)) in
-    let behind : drop (length front + left + count) (front ++ (v ++ back)) ≡ drop (left + count) v ++ back =
-    ap (λ k. drop k (front ++ (v ++ back))) (omega arith) ∙ (drop-append-add front (v ++ back) (left + count) ∙ drop-append-le (left + count) v back fits) in
-    spliced front v back w.items pieces left count (chunks_joined xs) (chunks_joined (slice_set xs i w)) whole now is before behind
+    let before : take (length front + offset) (front ++ (v ++ back)) ≡ front ++ take offset v =
+    take-append-add front (v ++ back) offset ∙ ap (λ ms. front ++ ms) (take-append-le offset v back (omega arith)) in
+    let behind : drop (length front + offset + count) (front ++ (v ++ back)) ≡ drop (offset + count) v ++ back =
+    ap (λ k. drop k (front ++ (v ++ back))) (omega arith) ∙ (drop-append-add front (v ++ back) (offset + count) ∙ drop-append-le (offset + count) v back fits) in
+    spliced front v back w.items pieces offset count (chunks_joined xs) (chunks_joined (slice_set xs i w)) whole now is before behind
 
 -- what a chunk holds from an index on is what the list holds there
-pub piece_at : (xs : List (Vec Mapping)) (i left : ℕ) (d : Vec Mapping) (piece : List Mapping) → i < length xs → left ≤ length (slice_index_or xs i d).items →
-    piece ≡ drop left (slice_index_or xs i d).items → piece ≡ take (length piece) (drop (length (chunks_joined (take i xs)) + left) (chunks_joined xs))
-piece_at xs i left d piece within fits is =
-    let behind : drop (length (chunks_joined (take i xs)) + left) (chunks_joined xs) ≡ piece ++ chunks_joined (drop (i + 1) xs) =
-    ap (drop (length (chunks_joined (take i xs)) + left)) (joined_at xs i d within)
-    ∙ (drop-append-add (chunks_joined (take i xs)) ((slice_index_or xs i d).items ++ chunks_joined (drop (i + 1) xs)) left
-    ∙ (drop-append-le left (slice_index_or xs i d).items (chunks_joined (drop (i + 1) xs)) fits ∙ ap (λ ms. ms ++ chunks_joined (drop (i + 1) xs)) (sym is))) in
+pub piece_at : (xs : List (Vec Mapping)) (i offset : ℕ) (d : Vec Mapping) (piece : List Mapping) → i < length xs → offset ≤ length (slice_index_or xs i d).items →
+    piece ≡ drop offset (slice_index_or xs i d).items → piece ≡ take (length piece) (drop (length (chunks_joined (take i xs)) + offset) (chunks_joined xs))
+piece_at xs i offset d piece within fits is =
+    let behind : drop (length (chunks_joined (take i xs)) + offset) (chunks_joined xs) ≡ piece ++ chunks_joined (drop (i + 1) xs) =
+    ap (drop (length (chunks_joined (take i xs)) + offset)) (joined_at xs i d within)
+    ∙ (drop-append-add (chunks_joined (take i xs)) ((slice_index_or xs i d).items ++ chunks_joined (drop (i + 1) xs)) offset
+    ∙ (drop-append-le offset (slice_index_or xs i d).items (chunks_joined (drop (i + 1) xs)) fits ∙ ap (λ ms. ms ++ chunks_joined (drop (i + 1) xs)) (sym is))) in
     rw behind (sym (take_at piece (chunks_joined (drop (i + 1) xs)) (length piece) refl))

@@ -1,4 +1,4 @@
--- Two neighbouring chunks joined, and the one that was emptied turned to the end.
+-- Two neighbouring chunks joined, and the one that was emptied rotated to the end.
 use Rattle.std.proofs.Common.{◌≡◌, ℕ, ◌+◌, ◌<◌, List, [], ◌∷◌, ◌++◌, length, take, drop, slice_index_or, slice_set, arith, refl, ◌∙◌, ap}
 use Rattle.std.proofs.Math.Seq.{drop-append-add}
 use Rattle.std.proofs.lemmas.List.{length-set, take-set, append-nil, append_assoc, drop_at, get_or_append_left, get_or-append_right, get_or-set_same, get_or_default}
@@ -12,7 +12,7 @@ pub joined_first : (b : List (Vec Mapping)) (d : Vec Mapping) → 0 < length b �
 joined_first [] d some_left = absurd (omega arith)
 joined_first (x ∷ bs) d some_left = refl
 
--- the first chunk emptied and turned to the end leaves the others
+-- the first chunk emptied and rotated to the end leaves the others
 pub joined_turned : (b : List (Vec Mapping)) (e : Vec Mapping) → 0 < length b → e.items ≡ [] →
     chunks_joined (drop 1 (slice_set b 0 e) ++ take 1 (slice_set b 0 e)) ≡ chunks_joined (drop 1 b)
 joined_turned [] e some_left none = absurd (omega arith)
@@ -29,7 +29,7 @@ last_turned (x ∷ bs) e m size none = ap chunks_joined (drop_at bs (e ∷ []) m
 pub joined_both : (f b bs : List (Vec Mapping)) (n : ℕ) (d e w : Vec Mapping) → length f ≡ n + 1 → 0 < length b →
     w.items ≡ (slice_index_or f n d).items ++ (slice_index_or b 0 e).items → chunks_joined bs ≡ chunks_joined (drop 1 b) →
     chunks_joined (slice_set f n w ++ bs) ≡ chunks_joined (f ++ b)
-joined_both f b bs n d e w size some_left put turned =
+joined_both f b bs n d e w size some_left put rotated =
     let within : n < length f = omega arith in
     let same : length (slice_set f n w) ≡ n + 1 = omega (arith, length-set f n w) in
     rw (
@@ -37,7 +37,7 @@ joined_both f b bs n d e w size some_left put turned =
       take-set f n w,
       get_or-set_same f n w d within,
       put,
-      turned,
+      rotated,
       joined_around f b n d size,
       joined_first b e some_left,
     ) (ap (λ ms. chunks_joined (take n f) ++ ms) (append_assoc (slice_index_or f n d).items (slice_index_or b 0 e).items (chunks_joined (drop 1 b))))

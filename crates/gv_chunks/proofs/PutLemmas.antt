@@ -1,4 +1,4 @@
--- Chunks that hold nothing turned to the front, and filled.
+-- Chunks that hold nothing rotated to the front, and filled.
 use Rattle.std.proofs.Common.{◌≡◌, ℕ, ◌+◌, ◌-◌, ◌≤◌, List, [], ◌++◌, length, take, drop, arith, ◌∙◌, ap, sym}
 use Rattle.std.proofs.Math.Seq.{drop-append-add}
 use Rattle.std.proofs.lemmas.List.{drop-drop, length-drop, take_at, drop_at, drop-take}
@@ -6,7 +6,7 @@ use Rattle.std.specs.Global.{Vec}
 use Rattle.gv_types.specs.declared.mapping.Mapping.{Mapping}
 use Rattle.gv_chunks.specs.Chunks.{chunks_joined}
 use Rattle.gv_chunks.proofs.ChunkLemmas.{joined-append, joined_parts, nil_back, nil_front}
-use Rattle.gv_chunks.proofs.SettledLemmas.{joined_front}
+use Rattle.gv_chunks.proofs.MergedLemmas.{joined_front}
 
 -- behind chunks that hold nothing stand chunks that hold nothing
 pub nothing_from : (xs : List (Vec Mapping)) (i j : ℕ) → i ≤ j → chunks_joined (drop i xs) ≡ [] → chunks_joined (drop j xs) ≡ []
@@ -15,7 +15,7 @@ nothing_from xs i j behind none =
     let parts : chunks_joined (take (j - i) (drop i xs)) ++ chunks_joined (drop (j - i) (drop i xs)) ≡ [] = sym (joined_parts (drop i xs) (j - i)) ∙ none in
     sym (ap chunks_joined there) ∙ nil_back (chunks_joined (take (j - i) (drop i xs))) _ parts
 
--- the front of chunks that were turned holds nothing
+-- the front of chunks that were rotated holds nothing
 pub front_of_turned : (xs : List (Vec Mapping)) (m n : ℕ) → m + n ≡ length xs → chunks_joined (drop m xs) ≡ [] → chunks_joined (take n (drop m xs ++ take m xs)) ≡ []
 front_of_turned xs m n size none = ap chunks_joined (take_at (drop m xs) (take m xs) n (omega (arith, length-drop m xs))) ∙ none
 

@@ -7,23 +7,23 @@ use Rattle.gv_chunks.specs.Chunks.{chunks_joined}
 use Rattle.gv_chunks.specs.Inside.{IsChunkList, IsIndexOf}
 use Rattle.gv_chunks.specs.declared.TheConstants.{CHUNK}
 use Rattle.gv_chunks.proofs.ChunkLemmas.{taken_chunks}
-use Rattle.gv_chunks.proofs.SettledLemmas.{joined_front}
+use Rattle.gv_chunks.proofs.MergedLemmas.{joined_front}
 use Rattle.gv_chunks.proofs.PutLemmas.{nothing_from}
 use Rattle.gv_chunks.proofs.RunLemmas.{none_in_front}
 
-module _ (xs : List (Vec Mapping)) (s count len room least : ℕ) (was : IsChunkList xs s len room) (standing : s ≤ count) where
+module _ (xs : List (Vec Mapping)) (s count len room least : ℕ) (was : IsChunkList xs s len room) (used_count : s ≤ count) where
   pub shrunk_items : chunks_joined (take count xs) ≡ chunks_joined xs
-  shrunk_items = joined_front xs count (nothing_from xs s count standing was.spare)
+  shrunk_items = joined_front xs count (nothing_from xs s count used_count was.spare)
 
   pub shrunk_front : take s (take count xs) ≡ take s xs
-  shrunk_front = take-take s count xs standing
+  shrunk_front = take-take s count xs used_count
 
   pub shrunk_list : len ≤ least → least ≤ room → (least ≤ CHUNK → s ≤ 1) → (0 < least → 0 < count) → (CHUNK < least → 2 * least + 3 * CHUNK ≤ CHUNK * count) → IsChunkList (take count xs) s len least
   shrunk_list fits less short some enough =
       let size : length (take count xs) ≡ min count (length xs) = length-take count xs in
       record {
         within = omega (arith, size, was.within);
-        spare = none_in_front xs s count standing was.spare;
+        spare = none_in_front xs s count used_count was.spare;
         chunked = taken_chunks count xs was.chunked;
         held = was.held ∙ ap length (sym shrunk_items);
         few = was.few;
@@ -42,13 +42,13 @@ module _ (xs : List (Vec Mapping)) (s count len room least : ℕ) (was : IsChunk
       record {
         are_starts = rw shrunk_front (λ k d inside.
             let there = index.are_starts k d inside in
-            let below : k < count = omega (arith, inside, length-take s xs, standing) in (
+            let below : k < count = omega (arith, inside, length-take s xs, used_count) in (
               omega (arith, same, there.0, below),
               kept k d below there.0 ∙ there.1,
             ));
         are_firsts = rw shrunk_front (λ k d v m inside.
             let there = index.are_firsts k d v m inside in
-            let below : k < count = omega (arith, inside, length-take s xs, standing) in (
+            let below : k < count = omega (arith, inside, length-take s xs, used_count) in (
               omega (arith, sizes, there.0, below),
               get_or-take count firsts k d below ∙ there.1,
             ));

@@ -40,20 +40,20 @@ module _ (xs : List (Vec Mapping)) (i : ℕ) (d : Vec Mapping) (ms : List Mappin
   end_of_chunk = ap length take_chunk ∙ length-append (chunks_joined (take i xs)) ms
 
   -- the mappings before an index in a chunk, and those from it on
-  pub take_in_chunk : (left : ℕ) → left ≤ length ms → take (length (chunks_joined (take i xs)) + left) (chunks_joined xs) ≡ chunks_joined (take i xs) ++ take left ms
-  take_in_chunk left few =
-      ap (take (length (chunks_joined (take i xs)) + left)) around_chunk
-      ∙ (take-append-add (chunks_joined (take i xs)) (ms ++ chunks_joined (drop (i + 1) xs)) left
-      ∙ ap (λ ns. chunks_joined (take i xs) ++ ns) (take-append-le left ms (chunks_joined (drop (i + 1) xs)) few))
+  pub take_in_chunk : (offset : ℕ) → offset ≤ length ms → take (length (chunks_joined (take i xs)) + offset) (chunks_joined xs) ≡ chunks_joined (take i xs) ++ take offset ms
+  take_in_chunk offset few =
+      ap (take (length (chunks_joined (take i xs)) + offset)) around_chunk
+      ∙ (take-append-add (chunks_joined (take i xs)) (ms ++ chunks_joined (drop (i + 1) xs)) offset
+      ∙ ap (λ ns. chunks_joined (take i xs) ++ ns) (take-append-le offset ms (chunks_joined (drop (i + 1) xs)) few))
 
-  pub drop_in_chunk : (left : ℕ) → left ≤ length ms → drop (length (chunks_joined (take i xs)) + left) (chunks_joined xs) ≡ drop left ms ++ chunks_joined (drop (i + 1) xs)
-  drop_in_chunk left few =
-      ap (drop (length (chunks_joined (take i xs)) + left)) around_chunk
-      ∙ (drop-append-add (chunks_joined (take i xs)) (ms ++ chunks_joined (drop (i + 1) xs)) left
-      ∙ drop-append-le left ms (chunks_joined (drop (i + 1) xs)) few)
+  pub drop_in_chunk : (offset : ℕ) → offset ≤ length ms → drop (length (chunks_joined (take i xs)) + offset) (chunks_joined xs) ≡ drop offset ms ++ chunks_joined (drop (i + 1) xs)
+  drop_in_chunk offset few =
+      ap (drop (length (chunks_joined (take i xs)) + offset)) around_chunk
+      ∙ (drop-append-add (chunks_joined (take i xs)) (ms ++ chunks_joined (drop (i + 1) xs)) offset
+      ∙ drop-append-le offset ms (chunks_joined (drop (i + 1) xs)) few)
 
-  pub index_within : (left : ℕ) → left ≤ length ms → length (chunks_joined (take i xs)) + left ≤ length (chunks_joined xs)
-  index_within left few = omega (arith, start_within xs (i + 1), end_of_chunk)
+  pub index_within : (offset : ℕ) → offset ≤ length ms → length (chunks_joined (take i xs)) + offset ≤ length (chunks_joined xs)
+  index_within offset few = omega (arith, start_within xs (i + 1), end_of_chunk)
 
   -- the mapping at an index in a chunk
   pub at_in_chunk : (k : ℕ) (e : Mapping) → k < length ms → get_or (chunks_joined xs) (length (chunks_joined (take i xs)) + k) e ≡ get_or ms k e

@@ -1,4 +1,4 @@
--- Numbers that are told by two: one of their own, and one that a block of them has in common.
+-- Starts of chunks as sums: of a chunk's own number and its block's base.
 use Rattle.std.proofs.Common.{◌≡◌, ℕ, ◌+◌, ◌-◌, ◌*◌, ◌/◌, ◌%◌, ◌^◌, ◌<◌, ◌≤◌, List, length, min, slice_index_or, inl, inr, arith, sym, ap, ◌∙◌}
 use Rattle.std.specs.List.{enumerate_from}
 use Rattle.std.proofs.lemmas.Bool.{cases_lt}

@@ -27,13 +27,13 @@ AreFirsts firsts chunks = (k d : ℕ) (v : Vec Mapping) (m : Mapping) → k < le
     (k < length firsts) × (slice_index_or firsts k d ≡ (slice_index_or (slice_index_or chunks k v).items 0 m).range.first)
 
 -- what a chunk and the next one hold is too much for one chunk, from the chunk `low` on
-abbrev pub SettledFrom : ℕ → List (Vec Mapping) → Type 0
-SettledFrom low chunks = (k : ℕ) (d : Vec Mapping) → low ≤ k → k + 1 < length chunks →
+abbrev pub AreMergedFrom : ℕ → List (Vec Mapping) → Type 0
+AreMergedFrom low chunks = (k : ℕ) (d : Vec Mapping) → low ≤ k → k + 1 < length chunks →
     CHUNK < vec_len (slice_index_or chunks k d) + vec_len (slice_index_or chunks (k + 1) d)
 
 -- no two neighbours fit into one chunk
-abbrev pub Settled : List (Vec Mapping) → Type 0
-Settled = SettledFrom 0
+abbrev pub AreMerged : List (Vec Mapping) → Type 0
+AreMerged = AreMergedFrom 0
 
 -- what contracts see of a list in chunks: its mappings, for how many it has room, and for how much each of its vectors has, with how many chunks
 -- there are
@@ -43,6 +43,6 @@ pub record ChunkListState : Type 0 where
   pub capacities : List ℕ
 
 -- the same mappings, and no less room
-pub record IsKept (old new : ChunkListState) : Type 0 where
+pub record KeepsMappings (old new : ChunkListState) : Type 0 where
   pub items : new.items ≡ old.items
   pub room : old.room ≤ new.room

@@ -1,4 +1,4 @@
--- Numbers that are told by two: one of their own, and one that a block of them has in common.
+-- Starts of chunks. Each is the sum, which wraps, of its own number and a base of its block.
 use Rattle.std.specs.Prelude.{ℕ, ◌+◌, ◌/◌, ◌%◌, ◌^◌, List, map, slice_index_or}
 use Rattle.std.specs.List.{enumerate_from}
 use Rattle.gv_chunks.specs.declared.TheConstants.{BLOCK}

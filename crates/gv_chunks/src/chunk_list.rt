@@ -4,17 +4,17 @@ ghost use Rattle.gv_types.specs.declared.mapping.Mapping.{Mapping};
 ghost use Rattle.gv_chunks.specs.declared.TheConstants.{CHUNK};
 
 use crate::CHUNK;
-use crate::parts::Parts;
 use crate::piece::piece_of;
 use crate::spot::Spot;
 use crate::starts::Starts;
+use crate::store::ChunkStore;
 use gv_types::{OutOfMemory, Packed};
 use std::alloc::Global;
 use std::marker::Model;
 
-/// The chunks that stand, and where each begins.
+/// The chunks in use, and where each begins.
 #[derive(Clone, Copy)]
-pub struct Standing<'a> {
+pub struct UsedChunks<'a> {
     pub chunks: &'a [Vec<Packed>],
     /// For each chunk, how many mappings stand before it.
     pub starts: &'a Starts,
@@ -25,23 +25,23 @@ pub struct Standing<'a> {
 /// Mappings in chunks. Room that it has is never given up.
 #[derive(Debug, Drop)]
 pub struct ChunkList {
-    parts: Parts,
+    store: ChunkStore,
 }
 
 impl Model for ChunkList {
     ghost use Rattle.gv_chunks.specs.Chunks.{ChunkListState};
-    ghost use Rattle.gv_chunks.specs.Inside.{AreParts, items_of, capacities_of};
+    ghost use Rattle.gv_chunks.specs.Inside.{IsChunkStore, items_of, capacities_of};
 
     ghost Value = { ChunkListState };
 
-    ghost view = { λ l. record { items = items_of l.parts; room = l.parts.room; capacities = capacities_of l.parts } };
+    ghost view = { λ l. record { items = items_of l.store; room = l.store.room; capacities = capacities_of l.store } };
 
-    ghost invariant = { λ l. AreParts l.parts };
+    ghost invariant = { λ l. IsChunkStore l.store };
 }
 
 impl ChunkList {
     ghost use Rattle.std.specs.List.{splice};
-    ghost use Rattle.gv_chunks.specs.Chunks.{chunks_joined, AreFilled, AreStarts, AreFirsts, IsKept};
+    ghost use Rattle.gv_chunks.specs.Chunks.{chunks_joined, AreFilled, AreStarts, AreFirsts, KeepsMappings};
 
     /// A list of no mapping, which takes no memory.
     pub fn new(alloc: Global) -> ChunkList
@@ -50,7 +50,7 @@ impl ChunkList {
         ensures capacities { result.capacities ≡ 0 ∷ 0 ∷ 0 ∷ 0 ∷ 0 ∷ [] }
     {
         ChunkList {
-            parts: Parts::new(alloc),
+            store: ChunkStore::new(alloc),
         }
     }
 
@@ -59,21 +59,21 @@ impl ChunkList {
     pub fn len(&self) -> usize
         ensures { result ≡ length self.now.items }
     {
-        self.parts.len
+        self.store.len
     }
 
-    /// The chunks that stand.
+    /// The chunks in use.
     #[inline(always)]
-    pub fn chunks(&self) -> Standing<'_>
+    pub fn chunks(&self) -> UsedChunks<'_>
         ensures items { chunks_joined result.chunks.now ≡ self.now.items }
         ensures filled { AreFilled result.chunks.now }
         ensures starts { AreStarts result.starts.now.numbers result.chunks.now }
         ensures firsts { AreFirsts result.firsts.now result.chunks.now }
     {
-        Standing {
-            chunks: &self.parts.chunks[..self.parts.standing],
-            starts: &self.parts.starts,
-            firsts: &self.parts.firsts,
+        UsedChunks {
+            chunks: &self.store.chunks[..self.store.used_count],
+            starts: &self.store.starts,
+            firsts: &self.store.firsts,
         }
     }
 
@@ -83,11 +83,11 @@ impl ChunkList {
         ensures value { result.now ≡ take (length result.now) (drop spot.index self.now.items) }
         ensures some { spot.index < length self.now.items → 0 < length result.now }
     {
-        if spot.index >= self.parts.len {
+        if spot.index >= self.store.len {
             return &[];
         }
-        let (chunk, start) = self.parts.find(spot);
-        piece_of(&self.parts.chunks, chunk, spot.index - start)
+        let (chunk, start) = self.store.find(spot);
+        piece_of(&self.store.chunks, chunk, spot.index - start)
     }
 
     /// What the chunk of an index holds from the index on. Where the list ends before the index, nothing.
@@ -110,7 +110,7 @@ impl ChunkList {
     /// have that are needed, and at most the double where that is enough. `OutOfMemory` where the system refuses the
     /// memory, and only where that room was missing.
     pub fn reserve(&mut self, more: usize) -> Result<(), OutOfMemory>
-        ensures kept { IsKept self.old self.new }
+        ensures kept { KeepsMappings self.old self.new }
         ensures ok { OnOk result (length self.new.items + more ≤ self.new.room) }
         ensures err { OnErr result (self.old.room < length self.old.items + more) }
         ensures enough { length self.old.items + more ≤ self.old.room
@@ -120,13 +120,13 @@ impl ChunkList {
         ensures double_or_need { self.new.room
             ≤ max (2 * self.old.room) (length self.old.items + more) }
     {
-        if more <= self.parts.room - self.parts.len {
+        if more <= self.store.room - self.store.len {
             return Ok(());
         }
-        let need = self.parts.len.checked_add(more).ok_or(OutOfMemory)?;
+        let need = self.store.len.checked_add(more).ok_or(OutOfMemory)?;
         let whole = need.div_ceil(CHUNK / 2).saturating_mul(CHUNK / 2);
-        let wanted = need.max(whole.min(self.parts.room.saturating_mul(2)));
-        self.parts.grow(wanted)
+        let wanted = need.max(whole.min(self.store.room.saturating_mul(2)));
+        self.store.grow(wanted)
     }
 
     /// Gives room back: it has room for just its mappings then, or for one more than a chunk holds.
@@ -135,7 +135,7 @@ impl ChunkList {
         ensures room { self.new.room ≤ max (length self.old.items) (CHUNK + 1) }
         ensures no_more { self.new.room ≤ self.old.room }
     {
-        self.parts.shrink();
+        self.store.shrink();
     }
 
     /// Replaces `out_count` mappings from a spot on by `pieces`. It takes no memory: the room has
@@ -151,6 +151,6 @@ impl ChunkList {
         if out_count == 0 && pieces.is_empty() {
             return;
         }
-        self.parts.replace(spot, out_count, pieces);
+        self.store.replace(spot, out_count, pieces);
     }
 }

@@ -5,8 +5,8 @@ ghost use Rattle.gv_types.specs.declared.mapping.Mapping.{Mapping};
 ghost use Rattle.gv_chunks.specs.Chunks.{chunks_joined, AreChunks};
 
 use crate::CHUNK;
+use crate::locate::locate;
 use crate::replace::append;
-use crate::walk::index_in;
 use gv_types::Packed;
 
 /// Cuts the list before `index`, and answers how many chunks stand before the cut. The last chunk has to be empty: it
@@ -23,24 +23,24 @@ pub fn cut(chunks: &mut [Vec<Packed>], index: usize) -> usize
     ensures chunks { AreChunks chunks.new }
 {
     let last = chunks.len() - 1;
-    let (chunk, left) = index_in(&chunks[..last], index);
-    divide(chunks, chunk, left);
+    let (chunk, offset) = locate(&chunks[..last], index);
+    divide(chunks, chunk, offset);
     chunk + 1
 }
 
-/// Moves what a chunk holds from `left` on into the last chunk, which holds nothing, and puts that behind it.
-pub fn divide(chunks: &mut [Vec<Packed>], chunk: usize, left: usize)
+/// Moves what a chunk holds from `offset` on into the last chunk, which holds nothing, and puts that behind it.
+pub fn divide(chunks: &mut [Vec<Packed>], chunk: usize, offset: usize)
     requires within { chunk + 1 < length chunks.old }
     requires spare { chunks_joined (drop (length chunks.old - 1) chunks.old) ≡ [] }
-    requires left { (d : Vec Mapping) → left ≤ vec_len (slice_index_or chunks.old chunk d) }
+    requires offset { (d : Vec Mapping) → offset ≤ vec_len (slice_index_or chunks.old chunk d) }
     requires chunks { AreChunks chunks.old }
     ensures before { chunks_joined (take (chunk + 1) chunks.new)
-        ≡ take (length (chunks_joined (take chunk chunks.old)) + left) (chunks_joined chunks.old) }
+        ≡ take (length (chunks_joined (take chunk chunks.old)) + offset) (chunks_joined chunks.old) }
     ensures behind { chunks_joined (drop (chunk + 1) chunks.new)
-        ≡ drop (length (chunks_joined (take chunk chunks.old)) + left) (chunks_joined chunks.old) }
+        ≡ drop (length (chunks_joined (take chunk chunks.old)) + offset) (chunks_joined chunks.old) }
     ensures front { take chunk chunks.new ≡ take chunk chunks.old }
-    ensures first { (d : Vec Mapping) → (slice_index_or chunks.new chunk d).items ≡ take left (slice_index_or chunks.old chunk d).items }
-    ensures second { (d : Vec Mapping) → (slice_index_or chunks.new (chunk + 1) d).items ≡ drop left (slice_index_or chunks.old chunk d).items }
+    ensures first { (d : Vec Mapping) → (slice_index_or chunks.new chunk d).items ≡ take offset (slice_index_or chunks.old chunk d).items }
+    ensures second { (d : Vec Mapping) → (slice_index_or chunks.new (chunk + 1) d).items ≡ drop offset (slice_index_or chunks.old chunk d).items }
     ensures later { (k : ℕ) (d : Vec Mapping) → chunk + 1 < k → k < length chunks.old
         → slice_index_or chunks.new k d ≡ slice_index_or chunks.old (k - 1) d }
     ensures chunks { AreChunks chunks.new }
@@ -48,8 +48,8 @@ pub fn divide(chunks: &mut [Vec<Packed>], chunk: usize, left: usize)
     let (front, back) = chunks.split_at_mut(chunk + 1);
     back.rotate_right(1);
     let source = &mut front[chunk];
-    append(&mut back[0], &source[left..]);
-    source.truncate(left);
+    append(&mut back[0], &source[offset..]);
+    source.truncate(offset);
 }
 
 /// Takes the mappings out of each chunk.

@@ -1,4 +1,4 @@
-//! Where the chunks of a list begin.
+//! The index of a list in chunks (where each begins): grown, searched, written.
 ghost use Rattle.std.specs.Prelude.{◌≡◌, ◌+◌, ◌<◌, ◌≤◌, ◌^◌, ◌%◌, ℕ, length, max, take, slice_index_or, slice_set, vec_len, vec_capacity, OnOk, IfSome};
 ghost use Rattle.gv_types.specs.declared.mapping.Mapping.{Mapping};
 ghost use Rattle.gv_chunks.specs.Chunks.{chunks_joined, AreFilled, AreStarts, AreFirsts};
@@ -20,49 +20,49 @@ pub fn pad<T: Copy>(items: &mut Vec<T>, count: usize, value: T) -> Result<(), Ou
     Ok(())
 }
 
-/// The last of the first `standing` numbers that is at most `index`. Each step halves what is left.
-pub fn last_at_most(starts: &Starts, standing: usize, index: usize) -> usize
-    requires some { 0 < standing }
-    requires within { standing ≤ length starts.now.numbers }
+/// The last of the first `used_count` numbers that is at most `index`. Each step halves what remains.
+pub fn last_at_most(starts: &Starts, used_count: usize, index: usize) -> usize
+    requires some { 0 < used_count }
+    requires within { used_count ≤ length starts.now.numbers }
     requires first { (d : ℕ) → slice_index_or starts.now.numbers 0 d ≤ index }
-    ensures within { result < standing }
+    ensures within { result < used_count }
     ensures begun { (d : ℕ) → slice_index_or starts.now.numbers result d ≤ index }
-    ensures next { (d : ℕ) → result + 1 < standing → index < slice_index_or starts.now.numbers (result + 1) d }
+    ensures next { (d : ℕ) → result + 1 < used_count → index < slice_index_or starts.now.numbers (result + 1) d }
 {
     let mut low = 0;
-    let mut left = standing;
-    while left > 1 {
-        let half = left / 2;
+    let mut remaining = used_count;
+    while remaining > 1 {
+        let half = remaining / 2;
         if starts.get(low + half) <= index {
             low += half;
-            left -= half;
+            remaining -= half;
         } else {
-            left = half;
+            remaining = half;
         }
     }
     low
 }
 
-/// Where the chunk `near` begins, if it is the last of the first `standing` that begin at `index` or before it. `near` may be any
+/// Where the chunk `hint` begins, if it is the last of the first `used_count` that begin at `index` or before it. `hint` may be any
 /// number. Mostly it is that chunk, so this is tried where it is asked for.
 #[inline(always)]
-pub(crate) fn start_of_near(
+pub(crate) fn start_of_hint(
     starts: &Starts,
-    standing: usize,
+    used_count: usize,
     index: usize,
-    near: usize,
+    hint: usize,
 ) -> Option<usize>
-    requires within { standing ≤ length starts.now.numbers }
-    ensures within { IfSome result (λ _. near < standing) }
-    ensures start { IfSome result (λ start. (d : ℕ) → start ≡ slice_index_or starts.now.numbers near d) }
+    requires within { used_count ≤ length starts.now.numbers }
+    ensures within { IfSome result (λ _. hint < used_count) }
+    ensures start { IfSome result (λ start. (d : ℕ) → start ≡ slice_index_or starts.now.numbers hint d) }
     ensures begun { IfSome result (λ start. start ≤ index) }
-    ensures next { IfSome result (λ _. (d : ℕ) → near + 1 < standing → index < slice_index_or starts.now.numbers (near + 1) d) }
+    ensures next { IfSome result (λ _. (d : ℕ) → hint + 1 < used_count → index < slice_index_or starts.now.numbers (hint + 1) d) }
 {
-    if near >= standing {
+    if hint >= used_count {
         return None;
     }
-    let start = starts.get(near);
-    if index < start || (near + 1 < standing && starts.get(near + 1) <= index) {
+    let start = starts.get(hint);
+    if index < start || (hint + 1 < used_count && starts.get(hint + 1) <= index) {
         return None;
     }
     Some(start)
@@ -81,16 +81,16 @@ pub fn add(numbers: &mut [usize], from: usize, to: usize, more: usize)
     }
 }
 
-/// Writes the page at which a chunk begins, of which the first `left` mappings stayed: where one did, the page is written already,
+/// Writes the page at which a chunk begins, of which the first `remaining` mappings stayed: where one did, the page is written already,
 /// and the chunk isn't read.
-pub(crate) fn write_first(firsts: &mut Vec<u64>, chunk: usize, held: &Vec<Packed>, left: usize)
+pub(crate) fn write_first(firsts: &mut Vec<u64>, chunk: usize, held: &Vec<Packed>, remaining: usize)
     requires chunk { chunk < vec_len firsts.old }
     requires some { 0 < vec_len held.now }
-    requires was { (m : Mapping) → 0 < left → slice_index_or firsts.old.items chunk 0 ≡ (slice_index_or held.now.items 0 m).range.first }
+    requires was { (m : Mapping) → 0 < remaining → slice_index_or firsts.old.items chunk 0 ≡ (slice_index_or held.now.items 0 m).range.first }
     ensures items { (m : Mapping) → firsts.new.items ≡ slice_set firsts.old.items chunk (slice_index_or held.now.items 0 m).range.first }
     ensures capacity { vec_capacity firsts.new ≡ vec_capacity firsts.old }
 {
-    if left > 0 {
+    if remaining > 0 {
         return;
     }
     firsts[chunk] = held[0].first();

@@ -1,13 +1,13 @@
-//! What the definitions say of worked examples.
+//! Worked examples of lists in chunks, proved.
 ghost use Rattle.gv_chunks.specs.Examples.{ThreeInARow, NoChunkHoldsNothing, RoomOfAChunk};
-ghost use Rattle.gv_chunks.specs.Examples.{OneIsSettled, TooMuchForOne, FitIntoOne};
+ghost use Rattle.gv_chunks.specs.Examples.{OneIsMerged, TooMuchForOne, FitIntoOne};
 
 /// Each worked example holds.
 pub fn examples()
     ensures row { ThreeInARow }
     ensures none { NoChunkHoldsNothing }
     ensures room { RoomOfAChunk }
-    ensures one { OneIsSettled }
+    ensures one { OneIsMerged }
     ensures much { TooMuchForOne }
     ensures fit { FitIntoOne }
 {}

@@ -2,30 +2,30 @@
 #![tactic(auto)]
 
 mod chunk_list;
+mod chunk_row;
+mod chunk_splice;
 mod cut;
-mod gap;
 mod grow;
 mod index;
 mod join;
 pub mod laws;
-mod parts;
+mod locate;
+mod merge_chunks;
 mod piece;
 mod put;
 mod replace;
-mod replacing;
 mod row;
 mod run;
-mod settle;
 mod spot;
 mod starts;
-mod walk;
+mod store;
 
-pub use chunk_list::{ChunkList, Standing};
+pub use chunk_list::{ChunkList, UsedChunks};
 pub use piece::piece_of;
 pub use spot::Spot;
 
 /// How many mappings a chunk has room for.
 pub const CHUNK: usize = 128;
 
-/// How many chunks a block has, which have a number in common.
+/// How many chunks a block has, whose starts share a base in `Starts`.
 pub const BLOCK: usize = 64;

@@ -8,11 +8,11 @@ use crate::CHUNK;
 use crate::cut::fill;
 use gv_types::Packed;
 
-/// Puts the pieces before all that the first `standing` chunks hold, in chunks from behind them, which hold nothing. Answers how
+/// Puts the pieces before all that the first `used_count` chunks hold, in chunks from behind them, which hold nothing. Answers how
 /// many chunks stand now.
-pub fn put_first(chunks: &mut [Vec<Packed>], standing: usize, pieces: &[Packed]) -> usize
-    requires room { length pieces.now + CHUNK * standing ≤ CHUNK * length chunks.old }
-    requires spare { chunks_joined (drop standing chunks.old) ≡ [] }
+pub fn put_first(chunks: &mut [Vec<Packed>], used_count: usize, pieces: &[Packed]) -> usize
+    requires room { length pieces.now + CHUNK * used_count ≤ CHUNK * length chunks.old }
+    requires spare { chunks_joined (drop used_count chunks.old) ≡ [] }
     requires chunks { AreChunks chunks.old }
     ensures items { chunks_joined chunks.new ≡ pieces.now ++ chunks_joined chunks.old }
     ensures within { result ≤ length chunks.new }
@@ -23,5 +23,5 @@ pub fn put_first(chunks: &mut [Vec<Packed>], standing: usize, pieces: &[Packed])
     chunks.rotate_right(count);
     let (front, _) = chunks.split_at_mut(count);
     fill(front, pieces);
-    standing + count
+    used_count + count
 }

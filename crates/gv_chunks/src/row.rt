@@ -11,12 +11,12 @@ pub(crate) fn put_entry<T: Copy>(row: &mut [T], at: usize, count: usize, value: 
     ensures behind { (k : ℕ) (d : T) → at < k → k ≤ count → slice_index_or row.new k d ≡ slice_index_or row.old (k - 1) d }
     ensures after { (k : ℕ) (d : T) → count < k → slice_index_or row.new k d ≡ slice_index_or row.old k d }
 {
-    turn_up(row, at, count);
+    rotate_up(row, at, count);
     row[at] = value;
 }
 
 /// Moves the values from `at` on up by one; the one at `count` comes to stand at `at`.
-fn turn_up<T: Copy>(row: &mut [T], at: usize, count: usize)
+fn rotate_up<T: Copy>(row: &mut [T], at: usize, count: usize)
     requires at { at ≤ count }
     requires within { count < length row.old }
     ensures len { length row.new ≡ length row.old }

@@ -3,12 +3,12 @@ ghost use Rattle.std.specs.Prelude.{◌≡◌, ◌+◌, ◌-◌, ◌*◌, ◌<�
 ghost use Rattle.std.specs.List.{splice};
 ghost use Rattle.std.specs.Global.{Vec};
 ghost use Rattle.gv_types.specs.declared.mapping.Mapping.{Mapping};
-ghost use Rattle.gv_chunks.specs.Chunks.{chunks_joined, AreChunks, Settled};
+ghost use Rattle.gv_chunks.specs.Chunks.{chunks_joined, AreChunks, AreMerged};
 
 use crate::CHUNK;
 use crate::cut::{clear, cut};
+use crate::merge_chunks::merge_chunks;
 use crate::put::put_first;
-use crate::settle::settle;
 use gv_types::Packed;
 
 /// Cuts the list before `index`, and answers how many chunks stand before the cut. Of the first `used` chunks the last has to be
@@ -52,12 +52,12 @@ pub fn drop_first(chunks: &mut [Vec<Packed>], out_count: usize) -> usize
 /// number; two more that hold nothing have to stand behind them.
 pub fn take_out_run(
     chunks: &mut [Vec<Packed>],
-    standing: usize,
+    used_count: usize,
     index: usize,
     out_count: usize,
 ) -> usize
-    requires room { standing + 2 ≤ length chunks.old }
-    requires spare { chunks_joined (drop standing chunks.old) ≡ [] }
+    requires room { used_count + 2 ≤ length chunks.old }
+    requires spare { chunks_joined (drop used_count chunks.old) ≡ [] }
     requires within { index + out_count ≤ length (chunks_joined chunks.old) }
     requires chunks { AreChunks chunks.old }
     ensures items { chunks_joined chunks.new ≡ take index (chunks_joined chunks.old) ++ drop (index + out_count) (chunks_joined chunks.old) }
@@ -66,59 +66,59 @@ pub fn take_out_run(
     ensures few { CHUNK * result ≤ 2 * length (chunks_joined chunks.new) + CHUNK }
     ensures chunks { AreChunks chunks.new }
 {
-    let start = cut_used(chunks, standing + 1, index);
+    let start = cut_used(chunks, used_count + 1, index);
     let (_, tail) = chunks.split_at_mut(start);
-    let left = drop_first(tail, out_count);
-    settle(chunks, start + left)
+    let remaining = drop_first(tail, out_count);
+    merge_chunks(chunks, start + remaining)
 }
 
 /// Puts the pieces in before `index`, and answers how many chunks stand now.
 pub fn put_in_run(
     chunks: &mut [Vec<Packed>],
-    standing: usize,
+    used_count: usize,
     index: usize,
     pieces: &[Packed],
 ) -> usize
-    requires room { length pieces.now + CHUNK * (standing + 1) ≤ CHUNK * length chunks.old }
-    requires spare { chunks_joined (drop standing chunks.old) ≡ [] }
+    requires room { length pieces.now + CHUNK * (used_count + 1) ≤ CHUNK * length chunks.old }
+    requires spare { chunks_joined (drop used_count chunks.old) ≡ [] }
     requires within { index ≤ length (chunks_joined chunks.old) }
     requires chunks { AreChunks chunks.old }
     ensures items { chunks_joined chunks.new ≡ splice (chunks_joined chunks.old) index index pieces.now }
     ensures within { result ≤ length chunks.new }
     ensures spare { chunks_joined (drop result chunks.new) ≡ [] }
-    ensures settled { Settled (take result chunks.new) }
+    ensures merged { AreMerged (take result chunks.new) }
     ensures few { CHUNK * result ≤ 2 * length (chunks_joined chunks.new) + CHUNK }
     ensures chunks { AreChunks chunks.new }
 {
-    let start = cut_used(chunks, standing + 1, index);
+    let start = cut_used(chunks, used_count + 1, index);
     let (_, tail) = chunks.split_at_mut(start);
-    let now = put_first(tail, standing + 1 - start, pieces);
-    settle(chunks, start + now)
+    let now = put_first(tail, used_count + 1 - start, pieces);
+    merge_chunks(chunks, start + now)
 }
 
 /// Replaces `out_count` mappings from `index` on by the pieces, and answers how many chunks stand now. All that stands is gone
 /// through, and neighbours that fit into one chunk are joined.
 pub fn replace_anywhere(
     chunks: &mut [Vec<Packed>],
-    standing: usize,
+    used_count: usize,
     index: usize,
     out_count: usize,
     pieces: &[Packed],
 ) -> usize
-    requires standing { standing + 2 ≤ length chunks.old }
+    requires used_count { used_count + 2 ≤ length chunks.old }
     requires room { 2 * (length (chunks_joined chunks.old) - out_count) + length pieces.now + 3 * CHUNK ≤ CHUNK * length chunks.old }
-    requires spare { chunks_joined (drop standing chunks.old) ≡ [] }
+    requires spare { chunks_joined (drop used_count chunks.old) ≡ [] }
     requires within { index + out_count ≤ length (chunks_joined chunks.old) }
     requires chunks { AreChunks chunks.old }
     ensures items { chunks_joined chunks.new ≡ splice (chunks_joined chunks.old) index (index + out_count) pieces.now }
     ensures within { result ≤ length chunks.new }
     ensures spare { chunks_joined (drop result chunks.new) ≡ [] }
-    ensures settled { Settled (take result chunks.new) }
+    ensures merged { AreMerged (take result chunks.new) }
     ensures few { CHUNK * result ≤ 2 * length (chunks_joined chunks.new) + CHUNK }
     ensures chunks { AreChunks chunks.new }
 {
-    let (used, _) = chunks.split_at_mut(standing + 2);
-    let left = take_out_run(used, standing, index, out_count);
-    let (used, _) = chunks.split_at_mut(left + 1 + pieces.len().div_ceil(CHUNK));
-    put_in_run(used, left, index, pieces)
+    let (used, _) = chunks.split_at_mut(used_count + 2);
+    let remaining = take_out_run(used, used_count, index, out_count);
+    let (used, _) = chunks.split_at_mut(remaining + 1 + pieces.len().div_ceil(CHUNK));
+    put_in_run(used, remaining, index, pieces)
 }

@@ -1,4 +1,4 @@
-//! Where a list is read or edited.
+//! An index of the list, with the chunk that is tried first.
 ghost use Rattle.std.specs.Prelude.{◌≡◌};
 
 /// An index, and the chunk that is looked in for it. It may be any number: where the index isn't in that chunk it is looked for in all
@@ -6,7 +6,7 @@ ghost use Rattle.std.specs.Prelude.{◌≡◌};
 #[derive(Clone, Copy, Debug)]
 pub struct Spot {
     pub index: usize,
-    pub near: usize,
+    pub hint: usize,
 }
 
 impl Spot {
@@ -15,7 +15,7 @@ impl Spot {
     pub fn anywhere(index: usize) -> Spot
         ensures { result.index ≡ index }
     {
-        Spot { index, near: 0 }
+        Spot { index, hint: 0 }
     }
 
     /// Another index, which is looked for in the same chunk.
@@ -25,7 +25,7 @@ impl Spot {
     {
         Spot {
             index,
-            near: self.near,
+            hint: self.hint,
         }
     }
 }

@@ -86,17 +86,17 @@ impl Starts {
     }
 
     /// Writes where a chunk begins if none stands yet: else it is written already. Answers how many stand now, with that chunk.
-    pub(crate) fn stand(&mut self, standing: usize, chunk: usize, start: usize) -> usize
+    pub(crate) fn set_if_unused(&mut self, used_count: usize, chunk: usize, start: usize) -> usize
         requires within { chunk < length self.old.numbers }
-        requires was { (d : ℕ) → 0 < standing → slice_index_or self.old.numbers chunk d ≡ start }
-        ensures standing { result ≡ max standing 1 }
+        requires was { (d : ℕ) → 0 < used_count → slice_index_or self.old.numbers chunk d ≡ start }
+        ensures used_count { result ≡ max used_count 1 }
         ensures len { length self.new.numbers ≡ length self.old.numbers }
         ensures here { (d : ℕ) → slice_index_or self.new.numbers chunk d ≡ start }
         ensures others { (k d : ℕ) → k < length self.old.numbers → k ≢ chunk → slice_index_or self.new.numbers k d ≡ slice_index_or self.old.numbers k d }
         ensures capacities { self.new.capacities ≡ self.old.capacities }
     {
-        if standing > 0 {
-            return standing;
+        if used_count > 0 {
+            return used_count;
         }
         self.set(chunk, start);
         1
@@ -159,7 +159,7 @@ fn mend_firsts(numbers: &mut [usize], bases: &[usize], at: usize, to: usize)
     requires blocks { length numbers.old ≤ BLOCK * length bases.now }
     ensures len { length numbers.new ≡ length numbers.old }
     ensures before { (k d : ℕ) → k ≤ at → slice_index_or numbers.new k d ≡ slice_index_or numbers.old k d }
-    ensures told { (k d : ℕ) → at < k → k ≤ to
+    ensures same_sum { (k d : ℕ) → at < k → k ≤ to
         → sum_at bases.now k (slice_index_or numbers.new k d) ≡ sum_at bases.now (k - 1) (slice_index_or numbers.old k d) }
 {
     for block in at / BLOCK + 1..to / BLOCK + 1 {
@@ -176,7 +176,7 @@ fn mend_lasts(numbers: &mut [usize], bases: &[usize], at: usize, to: usize)
     requires blocks { length numbers.old ≤ BLOCK * length bases.now }
     ensures len { length numbers.new ≡ length numbers.old }
     ensures before { (k d : ℕ) → k < at → slice_index_or numbers.new k d ≡ slice_index_or numbers.old k d }
-    ensures told { (k d : ℕ) → at ≤ k → k < to
+    ensures same_sum { (k d : ℕ) → at ≤ k → k < to
         → sum_at bases.now k (slice_index_or numbers.new k d) ≡ sum_at bases.now (k + 1) (slice_index_or numbers.old k d) }
 {
     for block in at / BLOCK..to / BLOCK {

@@ -20,7 +20,7 @@ pub enum Kind {
 
 /// A mapping, and the number of its line.
 #[derive(Clone, Copy, Debug, Drop)]
-struct Placed {
+struct NumberedMapping {
     mapping: Mapping,
     line: u64,
 }
@@ -66,7 +66,7 @@ impl Listing {
             end: 0,
             overlapping: None,
             mappings: Vec::new(alloc),
-            placed: Vec::new(alloc),
+            numbered: Vec::new(alloc),
         };
         let mut rest = text;
         while let Some((line, after)) = split_once(rest, b'\n') {
@@ -91,7 +91,7 @@ struct Reading {
     overlapping: Option<u64>,
     mappings: Vec<Mapping>,
     // Of a `gpuvas`, whose rows are sorted.
-    placed: Vec<Placed>,
+    numbered: Vec<NumberedMapping>,
 }
 
 impl Reading {
@@ -126,7 +126,7 @@ impl Reading {
         let row = match self.kind {
             Kind::Map if text == "empty" => return Ok(None),
             Kind::Map => return Err(NoRow),
-            Kind::Dump if is_head(text) => return Ok(None),
+            Kind::Dump if is_between_rows(text) => return Ok(None),
             Kind::Dump => Row::of_dump(text),
         };
         match row {
@@ -139,7 +139,7 @@ impl Reading {
     fn place(&mut self, mapping: Mapping) -> Result<(), CompareFault> {
         let line = self.line;
         if self.kind == Kind::Dump {
-            return Ok(self.placed.push(Placed { mapping, line })?);
+            return Ok(self.numbered.push(NumberedMapping { mapping, line })?);
         }
         if mapping.range.first() < self.end && self.overlapping.is_none() {
             self.overlapping = Some(line);
@@ -157,7 +157,7 @@ impl Reading {
             end: _,
             overlapping,
             mappings,
-            placed,
+            numbered,
         } = self;
         if let Some(line) = overlapping {
             return Err(CompareFault::Overlapping { list, line });
@@ -165,7 +165,7 @@ impl Reading {
         if kind == Kind::Map {
             return Ok(Listing { kind, mappings });
         }
-        let mappings = sorted(alloc, list, placed)?;
+        let mappings = sorted(alloc, list, numbered)?;
         Ok(Listing { kind, mappings })
     }
 }
@@ -178,12 +178,12 @@ struct NoRow;
 fn sorted(
     alloc: Global,
     list: Which,
-    mut placed: Vec<Placed>,
+    mut numbered: Vec<NumberedMapping>,
 ) -> Result<Vec<Mapping>, CompareFault> {
-    placed.sort_by_key(|placed| placed.mapping.range.first())?;
+    numbered.sort_by_key(|numbered| numbered.mapping.range.first())?;
     let mut mappings = Vec::new(alloc);
     let mut end = 0;
-    for item in &placed {
+    for item in &numbered {
         let mapping = item.mapping;
         if mapping.range.first() < end {
             return Err(CompareFault::Overlapping {
@@ -238,7 +238,7 @@ pub fn is_of_dump(line: &[u8]) -> bool {
 
 /// Whether a line of a `gpuvas` stands above its rows or between them: the name of a space, its reserved region, the names
 /// of the columns, a rule, or nothing.
-pub fn is_head(line: &str) -> bool {
+pub fn is_between_rows(line: &str) -> bool {
     let text = line.trim_ascii();
     text.is_empty()
         || text.starts_with(GPUVAS_HEAD)

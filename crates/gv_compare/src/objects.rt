@@ -1,4 +1,4 @@
-//! What stands behind mappings, by the names that the lists give.
+//! The buffers of both lists, and which two are taken for one another.
 
 use crate::listing::Kind;
 use gv_lines::{Name, write_hex};
@@ -46,10 +46,10 @@ impl Objects {
     }
 
     /// Takes two objects for one another, if neither is taken for one yet.
-    pub fn pair(&mut self, left: u32, right: u32) {
-        if self.partner(left).is_none() && self.partner(right).is_none() {
-            self.set(left, right);
-            self.set(right, left);
+    pub fn pair(&mut self, lhs: u32, rhs: u32) {
+        if self.partner(lhs).is_none() && self.partner(rhs).is_none() {
+            self.set(lhs, rhs);
+            self.set(rhs, lhs);
         }
     }
 

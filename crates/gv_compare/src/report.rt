@@ -40,24 +40,24 @@ pub fn compare_of(
     out: &mut String,
 ) -> Result<u64, CompareFault> {
     let mut objects = Objects::new(alloc);
-    let left = read_part(alloc, &mut objects, Which::First, first, space)?;
-    let right = read_part(alloc, &mut objects, Which::Second, second, space)?;
-    let kinds = (left.kind, right.kind);
+    let lhs = read_part(alloc, &mut objects, Which::First, first, space)?;
+    let rhs = read_part(alloc, &mut objects, Which::Second, second, space)?;
+    let kinds = (lhs.kind, rhs.kind);
     let mut pair = Pair {
-        left: left.mappings,
-        right: right.mappings,
+        lhs: lhs.mappings,
+        rhs: rhs.mappings,
     };
     if kinds.0 != kinds.1 {
         pair.match_objects(&mut objects);
-        make_alike(&mut pair.left, &objects);
-        make_alike(&mut pair.right, &objects);
+        make_alike(&mut pair.lhs, &objects);
+        make_alike(&mut pair.rhs, &objects);
     }
     let report = Report {
         objects,
-        left: kinds.0,
-        right: kinds.1,
+        lhs: kinds.0,
+        rhs: kinds.1,
     };
-    report.write_all(out, Walk::new(&pair.left, &pair.right))
+    report.write_all(out, Walk::new(&pair.lhs, &pair.rhs))
 }
 
 /// The list of one address space of a text.
@@ -75,17 +75,17 @@ fn read_part(
 /// The mappings of both lists.
 #[derive(Drop)]
 struct Pair {
-    left: Vec<Mapping>,
-    right: Vec<Mapping>,
+    lhs: Vec<Mapping>,
+    rhs: Vec<Mapping>,
 }
 
 impl Pair {
     /// Takes buffers for one another, each at the first page at which both lists map to buffers that aren't taken for any.
     fn match_objects(&self, objects: &mut Objects) {
-        let mut walk = Walk::new(&self.left, &self.right);
+        let mut walk = Walk::new(&self.lhs, &self.rhs);
         while let Some(both) = walk.next_both() {
-            if let (Some(left), Some(right)) = (object_of(both.0), object_of(both.1)) {
-                objects.pair(left, right);
+            if let (Some(lhs), Some(rhs)) = (object_of(both.0), object_of(both.1)) {
+                objects.pair(lhs, rhs);
             }
         }
     }
@@ -120,8 +120,8 @@ fn object_of(entry: Option<Entry>) -> Option<u32> {
 #[derive(Drop)]
 struct Report {
     objects: Objects,
-    left: Kind,
-    right: Kind,
+    lhs: Kind,
+    rhs: Kind,
 }
 
 impl Report {
@@ -146,9 +146,9 @@ impl Report {
         out.push_str(" ")?;
         write_hex(out, difference.range.end() * PAGE_BYTES)?;
         out.push_str(" ")?;
-        self.write_side(out, difference.left, self.left)?;
+        self.write_side(out, difference.lhs, self.lhs)?;
         out.push_str(" | ")?;
-        self.write_side(out, difference.right, self.right)?;
+        self.write_side(out, difference.rhs, self.rhs)?;
         out.push_str("\n")
     }
 
@@ -187,7 +187,7 @@ impl Report {
 
     /// Writes flags, where both lists tell them.
     fn write_flags(&self, out: &mut String, flags: Flags) -> Result<(), AllocError> {
-        if self.left == Kind::Dump || self.right == Kind::Dump {
+        if self.lhs == Kind::Dump || self.rhs == Kind::Dump {
             return Ok(());
         }
         out.push_str(if flags.read_only { " ro" } else { " rw" })

@@ -9,8 +9,8 @@ use gv_types::{Entry, Mapping, PageRange, SPACE_PAGES};
 #[derive(Clone, Copy, Debug, PartialEq, Eq)]
 pub struct Difference {
     pub range: PageRange,
-    pub left: Option<Entry>,
-    pub right: Option<Entry>,
+    pub lhs: Option<Entry>,
+    pub rhs: Option<Entry>,
 }
 
 /// What a list holds at a page, and the first page past it that it may hold otherwise.
@@ -23,26 +23,22 @@ struct Ahead {
 /// Two lists from a page on: of each, the mappings that end past it.
 #[derive(Debug, Drop)]
 pub struct Walk<'a> {
-    left: &'a [Mapping],
-    right: &'a [Mapping],
+    lhs: &'a [Mapping],
+    rhs: &'a [Mapping],
     page: u64,
 }
 
 impl<'a> Walk<'a> {
     /// Two lists from page 0 on.
-    pub fn new(left: &'a [Mapping], right: &'a [Mapping]) -> Walk<'a> {
-        Walk {
-            left,
-            right,
-            page: 0,
-        }
+    pub fn new(lhs: &'a [Mapping], rhs: &'a [Mapping]) -> Walk<'a> {
+        Walk { lhs, rhs, page: 0 }
     }
 
     /// What both hold at the page where the walk is.
     fn now(&self) -> (Option<Entry>, Option<Entry>) {
         (
-            look_ahead(self.left, self.page).now,
-            look_ahead(self.right, self.page).now,
+            look_ahead(self.lhs, self.page).now,
+            look_ahead(self.rhs, self.page).now,
         )
     }
 
@@ -52,12 +48,12 @@ impl<'a> Walk<'a> {
         ensures rises { self.old.page < self.new.page }
         ensures within { self.new.page ≤ PAGES }
     {
-        let left = look_ahead(self.left, self.page).until;
-        let until = left.min(look_ahead(self.right, self.page).until);
-        // For the prover: it lies past the page, since each mapping that is left ends there.
+        let lhs = look_ahead(self.lhs, self.page).until;
+        let until = lhs.min(look_ahead(self.rhs, self.page).until);
+        // For the prover: it lies past the page, since each remaining mapping ends there.
         let until = until.max(self.page + 1);
-        self.left = passed(self.left, until);
-        self.right = passed(self.right, until);
+        self.lhs = passed(self.lhs, until);
+        self.rhs = passed(self.rhs, until);
         self.page = until;
     }
 
@@ -78,14 +74,14 @@ impl<'a> Walk<'a> {
         ensures { IsSome result → (self.old.page < self.new.page) × (self.new.page ≤ PAGES) }
     {
         while self.page < SPACE_PAGES {
-            let (left, right) = self.now();
-            if left != right {
+            let (lhs, rhs) = self.now();
+            if lhs != rhs {
                 let first = self.page;
-                self.go_while(&left, &right);
+                self.go_while(&lhs, &rhs);
                 return Some(Difference {
                     range: PageRange::between(first, self.page),
-                    left,
-                    right,
+                    lhs,
+                    rhs,
                 });
             }
             self.go_on();
@@ -94,22 +90,22 @@ impl<'a> Walk<'a> {
     }
 
     /// Goes on as long as both hold what follows these, which they hold where the walk is.
-    fn go_while(&mut self, left: &Option<Entry>, right: &Option<Entry>)
+    fn go_while(&mut self, lhs: &Option<Entry>, rhs: &Option<Entry>)
         requires { self.old.page < PAGES }
         ensures rises { self.old.page < self.new.page }
         ensures within { self.new.page ≤ PAGES }
     {
         let first = self.page;
         self.go_on();
-        while self.page < SPACE_PAGES && self.follow(left, right, self.page - first) {
+        while self.page < SPACE_PAGES && self.follow(lhs, rhs, self.page - first) {
             self.go_on();
         }
     }
 
     /// Whether both hold what follows these, so many pages on.
-    fn follow(&self, left: &Option<Entry>, right: &Option<Entry>, pages: u64) -> bool {
+    fn follow(&self, lhs: &Option<Entry>, rhs: &Option<Entry>, pages: u64) -> bool {
         let (here, there) = self.now();
-        here == further(left, pages) && there == further(right, pages)
+        here == further(lhs, pages) && there == further(rhs, pages)
     }
 }
 

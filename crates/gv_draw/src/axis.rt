@@ -1,4 +1,4 @@
-//! Where addresses stand across.
+//! The horizontal axis: where each page is drawn, and which gaps are cut out.
 
 use crate::boxes::{Boxed, Boxes};
 use crate::pixels::{Tenths, share};

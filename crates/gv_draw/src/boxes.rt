@@ -1,4 +1,4 @@
-//! Boxes: a mapping for as long as it stood.
+//! Boxes: each is a mapping, from the row that made it to the row without it.
 
 use crate::choice::rows_before;
 use crate::history::History;
@@ -17,7 +17,7 @@ const TOGETHER: u64 = 3;
 
 /// A mapping that stood from one row, by its serial number, to the one without it.
 #[derive(Clone, Copy)]
-pub struct Stood {
+pub struct PastMapping {
     pub piece: Piece,
     pub from: u64,
     pub to: u64,
@@ -50,8 +50,8 @@ impl Boxes {
         for stood in &history.stood {
             boxes.add(history, &stood.piece, stood.from, stood.to)?;
         }
-        for (_, standing) in &history.standing {
-            boxes.add(history, &standing.piece, standing.from, u64::MAX)?;
+        for (_, current) in &history.current {
+            boxes.add(history, &current.piece, current.from, u64::MAX)?;
         }
         boxes
             .items

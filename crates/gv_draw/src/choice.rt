@@ -1,6 +1,6 @@
-//! Which rows are kept.
+//! Chooses the rows that a picture shows.
 
-use crate::boxes::Stood;
+use crate::boxes::PastMapping;
 use crate::row::Row;
 use gv_types::OutOfMemory;
 use std::alloc::Global;
@@ -21,7 +21,7 @@ pub const SPECIAL_RANK: u8 = 2;
 pub const PAGE_RANK: u8 = 3;
 
 /// At how many rows those that matter are chosen anew.
-pub const KEPT: usize = 2048;
+pub const CHOOSE_AT: usize = 2048;
 
 /// How many rows that are no plain change come before newer plain ones.
 const SPECIAL: u64 = 50;
@@ -31,7 +31,7 @@ const SPECIAL: u64 = 50;
 pub fn choose(
     alloc: Global,
     rows: &mut Vec<Row>,
-    stood: &mut Vec<Stood>,
+    stood: &mut Vec<PastMapping>,
 ) -> Result<(), OutOfMemory> {
     if rows.len() <= SHOWN {
         return Ok(());
@@ -51,8 +51,8 @@ fn least_shown(alloc: Global, rows: &[Row]) -> Result<(u8, u64), OutOfMemory> {
         keys.push((row.rank, row.serial))?;
     }
     keys.sort_unstable();
-    let place = keys.len().saturating_sub(SHOWN);
-    Ok(keys.get(place).copied().unwrap_or((0, 0)))
+    let index = keys.len().saturating_sub(SHOWN);
+    Ok(keys.get(index).copied().unwrap_or((0, 0)))
 }
 
 /// Has all but the newest special rows matter as plain ones do.

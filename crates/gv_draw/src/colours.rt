@@ -49,11 +49,11 @@ static LOOKS: [Look; COLOURS] = [
     look!("#5b6675", "none", "#5b6675", "#ffffff"),
 ];
 
-/// The buffers of a picture in the order in which they come, each with its place in it, and whether the picture has zeros and
+/// The buffers of a picture in the order in which they come, each with its index in it, and whether the picture has zeros and
 /// read-only pages.
 #[derive(Drop)]
 pub struct Colours {
-    places: BTreeMap<u64, usize>,
+    indices: BTreeMap<u64, usize>,
     pub order: Vec<u64>,
     pub has_zero: bool,
     pub has_read_only: bool,
@@ -63,7 +63,7 @@ impl Colours {
     /// Those of these boxes, from the top row down and from the lowest address up.
     pub fn of(alloc: Global, boxes: &[Boxed]) -> Result<Colours, OutOfMemory> {
         let mut colours = Colours {
-            places: BTreeMap::new(alloc),
+            indices: BTreeMap::new(alloc),
             order: Vec::new(alloc),
             has_zero: false,
             has_read_only: false,
@@ -86,8 +86,8 @@ impl Colours {
     }
 
     fn add(&mut self, buffer: u64) -> Result<(), OutOfMemory> {
-        if !self.places.contains_key(&buffer) {
-            self.places.insert(buffer, self.order.len())?;
+        if !self.indices.contains_key(&buffer) {
+            self.indices.insert(buffer, self.order.len())?;
             self.order.push(buffer)?;
         }
         Ok(())
@@ -95,7 +95,7 @@ impl Colours {
 
     /// The look of a buffer.
     pub fn look(&self, buffer: u64) -> &'static Look {
-        let place = self.places.get(&buffer).copied().unwrap_or(0);
-        &LOOKS[place % COLOURS]
+        let index = self.indices.get(&buffer).copied().unwrap_or(0);
+        &LOOKS[index % COLOURS]
     }
 }

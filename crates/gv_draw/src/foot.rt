@@ -78,7 +78,7 @@ fn write_notes(pen: &mut Pen<'_>, history: &History, boxes_left_out: u64, has_ta
 /// Whether some row shows memory that was freed.
 fn has_freed(rows: &[Row]) -> bool {
     for row in rows {
-        if let RowKind::Freed = row.told.kind {
+        if let RowKind::Freed = row.content.kind {
             return true;
         }
     }

@@ -3,8 +3,8 @@
 use crate::history::History;
 use crate::legend::Legend;
 use crate::lines::{Block, MARGIN, write_lines};
-use crate::page::Across;
 use crate::pen::Pen;
+use crate::picture::Across;
 use crate::pixels::{Tenths, address_width, width_of};
 use gv_types::OutOfMemory;
 use std::alloc::Global;

@@ -1,9 +1,9 @@
 //! What happened to an address space, row by row.
 
-use crate::boxes::Stood;
-use crate::choice::{IDLE_RANK, KEPT, PAGE_RANK, PLAIN_RANK, SPECIAL_RANK, choose};
+use crate::boxes::PastMapping;
+use crate::choice::{CHOOSE_AT, IDLE_RANK, PAGE_RANK, PLAIN_RANK, SPECIAL_RANK, choose};
 use crate::piece::Piece;
-use crate::row::{Row, RowKind, Told};
+use crate::row::{Row, RowContent, RowKind};
 use gv_ranges::RangeList;
 use gv_space::Space;
 use gv_types::{Backing, BufferId, OutOfMemory, PAGE_BYTES, PageRange, SPACE_PAGES};
@@ -18,7 +18,7 @@ const WIDENINGS: u64 = 1024;
 
 /// A mapping that stands, and the row that it came with.
 #[derive(Clone, Copy)]
-pub(crate) struct Standing {
+pub(crate) struct CurrentMapping {
     pub piece: Piece,
     pub from: u64,
 }
@@ -31,8 +31,8 @@ pub struct History {
     low: u64,
     high: u64,
     pub(crate) names: BTreeMap<u64, String>,
-    pub(crate) standing: BTreeMap<u64, Standing>,
-    pub(crate) stood: Vec<Stood>,
+    pub(crate) current: BTreeMap<u64, CurrentMapping>,
+    pub(crate) stood: Vec<PastMapping>,
     pub(crate) rows: Vec<Row>,
     pub(crate) serial: u64,
     pages: u64,
@@ -50,7 +50,7 @@ impl History {
             low,
             high,
             names: BTreeMap::new(alloc),
-            standing: BTreeMap::new(alloc),
+            current: BTreeMap::new(alloc),
             stood: Vec::new(alloc),
             rows: Vec::new(alloc),
             serial: 0,
@@ -65,12 +65,12 @@ impl History {
         Ok(())
     }
 
-    /// Adds a row: what was told, the ranges in which it may have changed mappings, and the address space after it. Around
+    /// Adds a row: its content, the ranges in which it may have changed mappings, and the address space after it. Around
     /// an address a row is left out that changed nothing near it.
     pub fn add(
         &mut self,
         alloc: Global,
-        told: Told,
+        content: RowContent,
         ranges: &[PageRange],
         space: &Space,
     ) -> Result<(), OutOfMemory> {
@@ -81,20 +81,20 @@ impl History {
         if self.at.is_some() && changed == IDLE_RANK {
             return Ok(());
         }
-        let rank = match (self.at, told.kind) {
+        let rank = match (self.at, content.kind) {
             (Some(_), _) | (None, RowKind::Change) => changed,
             (None, _) => SPECIAL_RANK,
         };
         self.rows.push(Row {
-            told,
+            content,
             serial: self.serial,
             rank,
-            mappings: self.standing.len() as u64,
+            mappings: self.current.len() as u64,
             pages: self.pages,
             tables: space.tables(),
         })?;
         self.serial = self.serial.saturating_add(1);
-        if self.rows.len() >= KEPT {
+        if self.rows.len() >= CHOOSE_AT {
             choose(alloc, &mut self.rows, &mut self.stood)?;
         }
         Ok(())
@@ -134,7 +134,7 @@ impl History {
         let Some(range) = self.near(range, list) else {
             return Ok(IDLE_RANK);
         };
-        let before = self.standing_in(alloc, range)?;
+        let before = self.current_in(alloc, range)?;
         let now = self.mapped_in(alloc, range, list)?;
         let gone = self.take_out(&before, &now)?;
         let came = self.put_in(&before, &now)?;
@@ -142,10 +142,14 @@ impl History {
     }
 
     /// What stood before and begins in a range.
-    fn standing_in(&self, alloc: Global, range: PageRange) -> Result<Vec<Standing>, OutOfMemory> {
+    fn current_in(
+        &self,
+        alloc: Global,
+        range: PageRange,
+    ) -> Result<Vec<CurrentMapping>, OutOfMemory> {
         let mut before = Vec::new(alloc);
-        for (_, standing) in self.standing.range(range.first()..range.end()) {
-            before.push(*standing)?;
+        for (_, current) in self.current.range(range.first()..range.end()) {
+            before.push(*current)?;
         }
         Ok(before)
     }
@@ -156,7 +160,7 @@ impl History {
         alloc: Global,
         range: PageRange,
         list: &RangeList,
-    ) -> Result<Vec<Standing>, OutOfMemory> {
+    ) -> Result<Vec<CurrentMapping>, OutOfMemory> {
         // The borrow checker proves this only where the function names the types inside the mapping.
         let _backing = Backing::Zero;
         let (index, count) = list.overlapping(range);
@@ -164,7 +168,7 @@ impl History {
         for mapping in list.run(index, count) {
             if let Some(piece) = Piece::of(mapping, self.low, self.high) {
                 let from = self.serial;
-                now.push(Standing { piece, from })?;
+                now.push(CurrentMapping { piece, from })?;
             }
         }
         Ok(now)
@@ -176,8 +180,8 @@ impl History {
         let mut first = low;
         let mut end = high;
         for piece in [
-            self.stands_at(low),
-            self.stands_at(last),
+            self.current_at(low),
+            self.current_at(last),
             self.mapped_at(low, list),
             self.mapped_at(last, list),
         ] {
@@ -190,10 +194,10 @@ impl History {
     }
 
     /// What stood at a page before.
-    fn stands_at(&self, page: u64) -> Option<Piece> {
+    fn current_at(&self, page: u64) -> Option<Piece> {
         let past = page.saturating_add(1);
-        let (_, standing) = self.standing.range(0..past).next_back()?;
-        (page < standing.piece.end).then_some(standing.piece)
+        let (_, current) = self.current.range(0..past).next_back()?;
+        (page < current.piece.end).then_some(current.piece)
     }
 
     /// What the list maps at a page.
@@ -206,26 +210,30 @@ impl History {
     }
 
     /// Takes out what stood before and doesn't now, and answers how much that matters.
-    fn take_out(&mut self, before: &[Standing], now: &[Standing]) -> Result<u8, OutOfMemory> {
+    fn take_out(
+        &mut self,
+        before: &[CurrentMapping],
+        now: &[CurrentMapping],
+    ) -> Result<u8, OutOfMemory> {
         let mut rank = IDLE_RANK;
-        for standing in before {
-            let piece = standing.piece;
+        for current in before {
+            let piece = current.piece;
             if !has(now, &piece) {
-                let _ = self.standing.remove(&piece.first);
+                let _ = self.current.remove(&piece.first);
                 self.pages = self.pages.saturating_sub(piece.pages());
                 rank = rank.max(self.rank_of(&piece));
-                self.end_of(standing)?;
+                self.end_of(current)?;
             }
         }
         Ok(rank)
     }
 
     /// Notes that a mapping stood until now, if any row saw it.
-    fn end_of(&mut self, standing: &Standing) -> Result<(), OutOfMemory> {
-        if standing.from < self.serial {
-            self.stood.push(Stood {
-                piece: standing.piece,
-                from: standing.from,
+    fn end_of(&mut self, current: &CurrentMapping) -> Result<(), OutOfMemory> {
+        if current.from < self.serial {
+            self.stood.push(PastMapping {
+                piece: current.piece,
+                from: current.from,
                 to: self.serial,
             })?;
         }
@@ -233,12 +241,16 @@ impl History {
     }
 
     /// Puts in what stands now and didn't before, and answers how much that matters.
-    fn put_in(&mut self, before: &[Standing], now: &[Standing]) -> Result<u8, OutOfMemory> {
+    fn put_in(
+        &mut self,
+        before: &[CurrentMapping],
+        now: &[CurrentMapping],
+    ) -> Result<u8, OutOfMemory> {
         let mut rank = IDLE_RANK;
-        for standing in now {
-            let piece = standing.piece;
+        for current in now {
+            let piece = current.piece;
             if !has(before, &piece) {
-                self.standing.insert(piece.first, *standing)?;
+                self.current.insert(piece.first, *current)?;
                 self.pages = self.pages.saturating_add(piece.pages());
                 rank = rank.max(self.rank_of(&piece));
             }
@@ -265,10 +277,10 @@ fn near(page: u64) -> (u64, u64) {
 }
 
 /// Whether a mapping is among ascending ones.
-fn has(standing: &[Standing], piece: &Piece) -> bool {
-    let place = standing.partition_point(|standing| standing.piece.first < piece.first);
-    match standing.get(place) {
-        Some(standing) => standing.piece == *piece,
+fn has(current: &[CurrentMapping], piece: &Piece) -> bool {
+    let index = current.partition_point(|current| current.piece.first < piece.first);
+    match current.get(index) {
+        Some(current) => current.piece == *piece,
         None => false,
     }
 }

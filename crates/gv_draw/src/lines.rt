@@ -1,4 +1,4 @@
-//! Texts in lines that a picture has room for.
+//! Breaks texts into lines that fit the width of a picture.
 
 use crate::pen::Pen;
 use crate::pixels::Tenths;

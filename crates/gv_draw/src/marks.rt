@@ -1,8 +1,8 @@
 //! Boundaries, cuts and addresses as they are drawn.
 
 use crate::axis::{Kind, Segment};
-use crate::page::Page;
 use crate::pen::Pen;
+use crate::picture::Picture;
 use crate::pixels::{Tenths, width_of};
 use crate::sizes::write_size;
 use gv_types::PAGE_BYTES;
@@ -22,7 +22,7 @@ const APART: Tenths = Tenths(130);
 /// How far above the rows the line at an address begins.
 const TICK: Tenths = Tenths(80);
 
-impl<'a> Page<'a> {
+impl<'a> Picture<'a> {
     /// Writes the line at each boundary, and at each page where pages are wide.
     pub fn write_boundaries(&self, pen: &mut Pen<'_>) {
         let mut next = Tenths(0);

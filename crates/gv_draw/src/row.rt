@@ -62,10 +62,10 @@ impl RowKind {
     }
 }
 
-/// A row as it is told: the number of the journal's entry, where it became one, what was asked, and the answer where that
+/// What a row shows: the number of the journal's entry, where it became one, what was asked, and the answer where that
 /// is worth showing.
 #[derive(Debug, Drop)]
-pub struct Told {
+pub struct RowContent {
     pub number: Option<u64>,
     pub label: String,
     pub answer: String,
@@ -75,7 +75,7 @@ pub struct Told {
 /// A row that is kept: its place among all rows, how much it matters, and what stood after it.
 #[derive(Drop)]
 pub(crate) struct Row {
-    pub told: Told,
+    pub content: RowContent,
     pub serial: u64,
     pub rank: u8,
     pub mappings: u64,

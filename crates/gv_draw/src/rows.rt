@@ -1,10 +1,10 @@
-//! The rows of a picture: where they stand, and what is behind them.
+//! The rows of a picture: where they stand, and their backgrounds.
 
 use crate::history::History;
 use crate::pen::{Area, Pen};
 use crate::pixels::{Tenths, width_of};
 use crate::row::Row;
-use crate::texts::{write_stood, write_tables};
+use crate::texts::{write_tables, write_usage};
 use gv_types::OutOfMemory;
 use std::alloc::Global;
 
@@ -76,7 +76,7 @@ impl Rows {
                 width,
                 height: self.height,
             };
-            let ground = row.told.kind.look().ground;
+            let ground = row.content.kind.look().ground;
             if !ground.is_empty() {
                 pen.rect(&area, ground);
             } else if place % 2 == 1 {
@@ -99,7 +99,7 @@ pub fn counts_width(alloc: Global, history: &History) -> Result<Tenths, OutOfMem
     for row in &history.rows {
         let mut text = String::new(alloc);
         let mut pen = Pen::on(&mut text);
-        write_stood(&mut pen, row);
+        write_usage(&mut pen, row);
         pen.push("\n");
         if has_tables {
             write_tables(&mut pen, row);

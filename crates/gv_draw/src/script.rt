@@ -1,10 +1,10 @@
-//! A script, drawn.
+//! Runs a script and draws it.
 
 use crate::fault::DrawFault;
 use crate::history::History;
 use crate::options::Options;
-use crate::page::write_picture;
-use crate::row::{RowKind, Told};
+use crate::picture::write_picture;
+use crate::row::{RowContent, RowKind};
 use gv_lines::{Line, parse_line, split_once};
 use gv_session::{LineFault, Session, run_line};
 use gv_types::{OutOfMemory, PageRange};
@@ -13,7 +13,7 @@ use std::str;
 
 /// What a line is in a picture.
 #[derive(Clone, Copy)]
-enum Act {
+enum LineRole {
     /// A row. Unless it is refused, it is of this kind, and shows its reply or not.
     Row { kind: RowKind, has_answer: bool },
     /// The name of a buffer.
@@ -22,17 +22,17 @@ enum Act {
     Other,
 }
 
-impl Act {
+impl LineRole {
     /// What this line is.
-    fn of(line: &Line<'_>) -> Act {
+    fn of(line: &Line<'_>) -> LineRole {
         let (kind, has_answer) = match line {
             Line::Bind { .. } => (RowKind::Change, false),
             Line::Settle { .. } => (RowKind::Change, true),
             Line::Rewind | Line::Withdraw { .. } => (RowKind::TakesBack, true),
-            Line::Buffer { .. } => return Act::Name,
-            _ => return Act::Other,
+            Line::Buffer { .. } => return LineRole::Name,
+            _ => return LineRole::Other,
         };
-        Act::Row { kind, has_answer }
+        LineRole::Row { kind, has_answer }
     }
 }
 
@@ -99,7 +99,7 @@ impl Drawing {
         let Some(parsed) = parse_line(line) else {
             return Err(LineFault::Bad);
         };
-        let act = Act::of(&parsed);
+        let role = LineRole::of(&parsed);
         self.reply.clear();
         self.ranges.clear();
         let before = self.session.world().vm().next();
@@ -111,13 +111,13 @@ impl Drawing {
         if has_entry {
             self.note_ranges()?;
         }
-        let noted = match act {
-            Act::Row { kind, has_answer } => {
+        let noted = match role {
+            LineRole::Row { kind, has_answer } => {
                 let number = has_entry.then_some(before);
                 self.add_row(alloc, line, number, kind, has_answer)
             }
-            Act::Name => self.give_name(alloc, line),
-            Act::Other => Ok(()),
+            LineRole::Name => self.give_name(alloc, line),
+            LineRole::Other => Ok(()),
         };
         Ok(noted?)
     }
@@ -160,13 +160,14 @@ impl Drawing {
         if is_refused || has_answer {
             answer.push_str(reply)?;
         }
-        let told = Told {
+        let content = RowContent {
             number,
             label: String::from_str(alloc, label)?,
             answer,
             kind: if is_refused { RowKind::Refused } else { kind },
         };
         let space = self.session.world().vm().space();
-        self.history.add(alloc, told, self.ranges.as_slice(), space)
+        self.history
+            .add(alloc, content, self.ranges.as_slice(), space)
     }
 }

@@ -3,8 +3,8 @@
 use crate::boxes::Boxed;
 use crate::colours::{Look, MANY, ZERO};
 use crate::names::name_of;
-use crate::page::Page;
 use crate::pen::{Area, Pen};
+use crate::picture::Picture;
 use crate::pixels::{Tenths, address_width, width_of};
 use gv_types::{Backing, PAGE_BYTES};
 use std::alloc::AllocError;
@@ -35,7 +35,7 @@ struct Words<'a> {
     start: Option<u64>,
 }
 
-impl<'a> Page<'a> {
+impl<'a> Picture<'a> {
     /// What a box shows.
     fn face(&self, item: &Boxed) -> Result<Face, AllocError> {
         let mut start = None;

@@ -1,7 +1,7 @@
 //! The texts of a row.
 
-use crate::page::Page;
 use crate::pen::Pen;
+use crate::picture::Picture;
 use crate::pixels::Tenths;
 use crate::row::Row;
 use crate::sizes::{write_count, write_size};
@@ -23,12 +23,12 @@ const UPPER: Tenths = Tenths(160);
 
 const LOWER: Tenths = Tenths(310);
 
-impl<'a> Page<'a> {
+impl<'a> Picture<'a> {
     /// Writes the texts of all rows.
     pub fn write_texts(&self, pen: &mut Pen<'_>) {
         let mut next: u64 = 0;
-        for (place, row) in self.history.rows.iter().enumerate() {
-            let top = self.rows.top_of(place);
+        for (index, row) in self.history.rows.iter().enumerate() {
+            let top = self.rows.top_of(index);
             if row.serial > next {
                 write_left_out(pen, row.serial.saturating_sub(next), top);
             }
@@ -41,8 +41,8 @@ impl<'a> Page<'a> {
 
     /// Writes what was asked, and the answer where there is one.
     fn write_label(&self, pen: &mut Pen<'_>, row: &Row, top: Tenths) {
-        let label = row.told.label.as_str();
-        let answer = row.told.answer.as_str();
+        let label = row.content.label.as_str();
+        let answer = row.content.answer.as_str();
         let answer_chars = answer.chars().count();
         let parts = label.split_once(" ; ");
         let is_short = label.chars().count().saturating_add(answer_chars) < LABEL_CHARS;
@@ -72,7 +72,7 @@ impl<'a> Page<'a> {
         let below = if has_tables { UPPER } else { self.rows.middle };
         let x = self.across.counts;
         pen.begin_text(x, top.plus(below), "class=\"count\"");
-        write_stood(pen, row);
+        write_usage(pen, row);
         pen.end_text();
         if has_tables {
             pen.begin_text(x, top.plus(LOWER), "class=\"tables\"");
@@ -93,10 +93,10 @@ fn write_left_out(pen: &mut Pen<'_>, count: u64, top: Tenths) {
 
 /// Writes the number of a row's entry, or a sign of what it is.
 fn write_number(pen: &mut Pen<'_>, row: &Row, y: Tenths) {
-    let look = row.told.kind.look();
+    let look = row.content.kind.look();
     pen.begin_text(NUMBER_X, y, look.number);
     pen.push(look.sign);
-    match row.told.number {
+    match row.content.number {
         Some(number) if look.sign.is_empty() => pen.number(number),
         _ => {}
     }
@@ -113,16 +113,16 @@ fn write_shortened(pen: &mut Pen<'_>, label: &str, room: usize, y: Tenths) -> Te
 
 /// Writes the answer to what was asked, where it is worth showing.
 fn write_answer(pen: &mut Pen<'_>, row: &Row, x: Tenths, y: Tenths) {
-    let answer = row.told.answer.as_str();
+    let answer = row.content.answer.as_str();
     if !answer.is_empty() {
-        pen.begin_text(x, y, row.told.kind.look().answer);
+        pen.begin_text(x, y, row.content.kind.look().answer);
         pen.text(answer);
         pen.end_text();
     }
 }
 
-/// Writes what stood after a row.
-pub fn write_stood(pen: &mut Pen<'_>, row: &Row) {
+/// Writes how many mappings and pages there were after a row.
+pub fn write_usage(pen: &mut Pen<'_>, row: &Row) {
     write_count(pen, row.mappings, "mapping");
     pen.push(" · ");
     write_size(pen, row.pages);

@@ -124,7 +124,7 @@ fn are_drawn(rt: &(impl Files + AllocGlobal)) -> io::Result<bool> {
         if block.contains("\n  before      ") {
             let name = names.next().copied().unwrap_or("none");
             let script = fs::read_to_string(rt, format!(in rt.alloc(); "{name}.vmb")?)?;
-            if !pictures::is_of(rt.alloc(), block, &script)? {
+            if !pictures::matches_script(rt.alloc(), block, &script)? {
                 return Ok(false);
             }
         }

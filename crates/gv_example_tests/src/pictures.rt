@@ -19,7 +19,7 @@ fn row<'a>(rows: &'a str, label: &str) -> &'a str {
 
 /// Whether the script has the line of a picture, answers it so, and has the mappings or the tables drawn before and after it. A
 /// `plan` line changes nothing: the change is its operation.
-pub fn is_of(alloc: Global, block: &str, script: &str) -> Result<bool, AllocError> {
+pub fn matches_script(alloc: Global, block: &str, script: &str) -> Result<bool, AllocError> {
     let (rows, lines) = parts(block, "\n\n  ");
     let (line, told) = parts(lines, "\n");
     let has_tables = rows.contains("\n              level ");

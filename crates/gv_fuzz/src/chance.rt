@@ -37,12 +37,12 @@ impl Chance {
     /// One of some patterns, by their weights.
     pub fn pick(&mut self, rows: &[Row]) -> &'static str {
         let all = rows.iter().fold(0u64, |sum, row| sum.saturating_add(row.0));
-        let mut left = self.random.below(all.max(1));
+        let mut remaining = self.random.below(all.max(1));
         for (weight, pattern) in rows {
-            if left < *weight {
+            if remaining < *weight {
                 return *pattern;
             }
-            left = left.saturating_sub(*weight);
+            remaining = remaining.saturating_sub(*weight);
         }
         ""
     }
@@ -104,8 +104,8 @@ impl Chance {
         count: u64,
         out: &mut String,
     ) -> Result<(), AllocError> {
-        for place in 0..count {
-            out.push_str(if place == 0 { first } else { " ; " })?;
+        for index in 0..count {
+            out.push_str(if index == 0 { first } else { " ; " })?;
             let pattern = self.pick_named(rows, OTHER_CLAUSE);
             self.write(pattern, out)?;
         }
@@ -151,8 +151,8 @@ impl Chance {
     }
 
     fn one_of(&mut self, words: &[&'static str]) -> &'static str {
-        let place = self.random.below((words.len() as u64).max(1));
-        words.get(place as usize).copied().unwrap_or("b")
+        let index = self.random.below((words.len() as u64).max(1));
+        words.get(index as usize).copied().unwrap_or("b")
     }
 
     /// Writes a number, in one of its two forms, behind a space.

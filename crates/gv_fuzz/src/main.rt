@@ -21,17 +21,17 @@ use std::io;
 use std::process::ExitCode;
 use std::time::{Clock, Instant};
 use trial::Trial;
-use words::{Plan, plan_of};
+use words::{Campaign, campaign_of};
 
 /// After so many differences no further script is tried.
 const MOST_FAILED: u64 = 5;
 
 fn main(rt: HostRuntime) -> io::Result<ExitCode> {
-    let Some(plan) = plan_of(&rt)? else {
+    let Some(campaign) = campaign_of(&rt)? else {
         rt.eprintln("gv_fuzz [--seed N] [--scripts N] [--seconds N], one of the last two")?;
         return Ok(ExitCode::from(2));
     };
-    let failed = try_all(&rt, &plan)?;
+    let failed = try_all(&rt, &campaign)?;
     Ok(if failed == 0 {
         ExitCode::SUCCESS
     } else {
@@ -39,16 +39,16 @@ fn main(rt: HostRuntime) -> io::Result<ExitCode> {
     })
 }
 
-/// Tries the scripts of a plan, and gives how many differed.
-fn try_all<R: Clock + Print + AllocGlobal>(rt: &R, plan: &Plan) -> io::Result<u64> {
+/// Tries the scripts of a campaign, and gives how many differed.
+fn try_all<R: Clock + Print + AllocGlobal>(rt: &R, campaign: &Campaign) -> io::Result<u64> {
     let start = Instant::now(rt)?;
     let mut passed: u64 = 0;
     let mut failed: u64 = 0;
-    for number in 0..plan.scripts {
-        if failed >= MOST_FAILED || start.elapsed(rt)?.as_secs() >= plan.seconds {
+    for number in 0..campaign.scripts {
+        if failed >= MOST_FAILED || start.elapsed(rt)?.as_secs() >= campaign.seconds {
             break;
         }
-        if agrees(rt, plan.seed.wrapping_add(number))? {
+        if agrees(rt, campaign.seed.wrapping_add(number))? {
             passed = passed.saturating_add(1);
         } else {
             failed = failed.saturating_add(1);

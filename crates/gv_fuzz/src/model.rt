@@ -34,13 +34,13 @@ pub fn ending_of(alloc: Global, script: &[u8]) -> Result<Ending, AllocError> {
         bad_line: None,
     };
     let ended = script.iter().filter(|byte| **byte == b'\n').count();
-    for (place, line) in script.split(|byte| *byte == b'\n').enumerate() {
-        let is_rest = place == ended;
+    for (index, line) in script.split(|byte| *byte == b'\n').enumerate() {
+        let is_rest = index == ended;
         if is_rest && line.is_empty() {
             break;
         }
         if is_rest || !world.run_line(alloc, line, &mut ending.text)? {
-            ending.bad_line = Some((place as u64).saturating_add(1));
+            ending.bad_line = Some((index as u64).saturating_add(1));
             break;
         }
         ending.ends.push(ending.text.len())?;

@@ -35,11 +35,11 @@ impl Shape {
     pub fn by_chance(random: &mut Random) -> Shape {
         let unit = random.among(&[1, 1, 1, 1, 512, 1 << 18]);
         let base = if unit == 1 { random.among(&BASES) } else { 0 };
-        let place = random.below(LETTERS.len() as u64) as usize;
+        let index = random.below(LETTERS.len() as u64) as usize;
         Shape {
             base,
             unit,
-            letters: LETTERS.get(place).copied().unwrap_or("b"),
+            letters: LETTERS.get(index).copied().unwrap_or("b"),
         }
     }
 

@@ -22,10 +22,10 @@ pub fn shrunk(alloc: Global, script: &[u8]) -> Result<Vec<u8>, AllocError> {
 /// The script without each part, up to and with this end, that its difference doesn't need.
 fn without_parts(alloc: Global, script: &[u8], end: &[u8]) -> Result<Vec<u8>, AllocError> {
     let mut kept = Vec::from_slice(alloc, script)?;
-    for place in (0..script.len()).rev() {
-        let begins = place == 0 || script.get(..place).unwrap_or(&[]).ends_with(end);
+    for index in (0..script.len()).rev() {
+        let begins = index == 0 || script.get(..index).unwrap_or(&[]).ends_with(end);
         if begins {
-            let shorter = without_part(alloc, &kept, place, end)?;
+            let shorter = without_part(alloc, &kept, index, end)?;
             if !Trial::new(alloc, &shorter)?.agrees() {
                 kept = shorter;
             }
@@ -34,15 +34,15 @@ fn without_parts(alloc: Global, script: &[u8], end: &[u8]) -> Result<Vec<u8>, Al
     Ok(kept)
 }
 
-/// The script without the part that begins at a place.
+/// The script without the part that begins at an index.
 fn without_part(
     alloc: Global,
     script: &[u8],
-    place: usize,
+    index: usize,
     end: &[u8],
 ) -> Result<Vec<u8>, AllocError> {
-    let front = script.get(..place).unwrap_or(script);
-    let part = script.get(place..).unwrap_or(&[]);
+    let front = script.get(..index).unwrap_or(script);
+    let part = script.get(index..).unwrap_or(&[]);
     let len = part
         .windows(end.len().max(1))
         .position(|window| window == end)

@@ -4,7 +4,7 @@ use std::{env, io};
 
 /// How long scripts are tried, and which.
 #[derive(Clone, Copy)]
-pub struct Plan {
+pub struct Campaign {
     /// The seed of the first script; each further one has the next.
     pub seed: u64,
     /// At most so many.
@@ -13,40 +13,40 @@ pub struct Plan {
     pub seconds: u64,
 }
 
-/// The plan that the words say: pairs of `--seed`, `--scripts` or `--seconds` and a number.
-pub fn plan_of<R: Env + AllocGlobal>(rt: &R) -> io::Result<Option<Plan>> {
-    let mut plan = Plan {
+/// The campaign that the words say: pairs of `--seed`, `--scripts` or `--seconds` and a number.
+pub fn campaign_of<R: Env + AllocGlobal>(rt: &R) -> io::Result<Option<Campaign>> {
+    let mut campaign = Campaign {
         seed: 1,
         scripts: u64::MAX,
         seconds: u64::MAX,
     };
     let words: Vec<String> = env::args(rt)?.skip(1).collect(rt.alloc())?;
     for pair in words.chunks(2) {
-        let Some(further) = read(plan, pair) else {
+        let Some(further) = read(campaign, pair) else {
             return Ok(None);
         };
-        plan = further;
+        campaign = further;
     }
-    let ends = plan.scripts < u64::MAX || plan.seconds < u64::MAX;
-    Ok(ends.then_some(plan))
+    let ends = campaign.scripts < u64::MAX || campaign.seconds < u64::MAX;
+    Ok(ends.then_some(campaign))
 }
 
-/// The plan with what a pair of words says.
-fn read(plan: Plan, pair: &[String]) -> Option<Plan> {
+/// The campaign with what a pair of words says.
+fn read(campaign: Campaign, pair: &[String]) -> Option<Campaign> {
     let (name, number) = (pair.first()?, pair.get(1)?);
     let number = number.as_str().parse::<u64>().ok()?;
     match name.as_str() {
-        "--seed" => Some(Plan {
+        "--seed" => Some(Campaign {
             seed: number,
-            ..plan
+            ..campaign
         }),
-        "--scripts" => Some(Plan {
+        "--scripts" => Some(Campaign {
             scripts: number,
-            ..plan
+            ..campaign
         }),
-        "--seconds" => Some(Plan {
+        "--seconds" => Some(Campaign {
             seconds: number,
-            ..plan
+            ..campaign
         }),
         _ => None,
     }

@@ -1,4 +1,4 @@
-//! Text on its way to a sink.
+//! Text that is collected and written to a sink in large pieces.
 ghost use Rattle.std.specs.Prelude.{◌≡◌, [], true, OnOk, OnErr};
 ghost use Rattle.std.specs.Io.KnownBytes.{Appends, append_known};
 

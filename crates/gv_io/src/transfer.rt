@@ -1,4 +1,4 @@
-//! Whole texts through devices.
+//! Writes a whole text to a sink. How long a script may be.
 ghost use Rattle.std.specs.Prelude.{◌≡◌, ◌≤◌, ◌<◌, true, OnOk, OnErr, length};
 ghost use Rattle.std.specs.Io.KnownBytes.{Appends};
 

@@ -14,15 +14,15 @@ use Rattle.gv_space.specs.declared.undo.OpUndo.{OpUndo}
 use Rattle.gv_journal.specs.Undoing.{undone_by}
 use Rattle.gv_journal.specs.Items.{JournalState, numbered, entries, names, is_withdrawn, live_ops, view}
 use Rattle.gv_journal.specs.History.{undos_of, kept_by, base, Translates, Save, UndoSavesTheView, Rewinds, AreUndosOf}
-use Rattle.gv_journal.specs.State.{FitsOver, FitsSpace}
+use Rattle.gv_journal.specs.Fits.{FitsOver, FitsSpace}
 use Rattle.gv_journal.specs.Applying.{after_all, AreApplied}
 use Rattle.gv_journal.specs.Inside.{NamesBelow, NameOlder}
-use Rattle.gv_journal.specs.Saying.{WereLive}
+use Rattle.gv_journal.specs.Covering.{WereLive}
 use Rattle.gv_journal.specs.declared.item.Item.{Item}
 use Rattle.gv_journal.specs.declared.item.ItemKind.{ItemKind}
 use Rattle.gv_journal.specs.declared.item.ItemKind.TheVariants.{Bind, Withdrawal}
 use Rattle.gv_journal.proofs.Views.{view-at, view-append}
-use Rattle.gv_journal.proofs.Histories.{Rewinds-room}
+use Rattle.gv_journal.proofs.KeptMappings.{Rewinds-room}
 
 -- a Bind of a request
 abbrev pub bound : ℕ → ℕ → Request → Vec ℕ Global → Vec PageOp Global → Vec OpUndo Global → Item

@@ -1,4 +1,4 @@
--- One operation more, and more room.
+-- `AreChanges` and `AreApplied` after one operation more, or with more room.
 use Rattle.std.proofs.Common.{◌≡◌, ℕ, ◌≤◌, List, [], ◌∷◌, ◌++◌, Option, IsTrue, cond, refl, ap, sym, ◌∙◌, subst, arith, append_assoc}
 use Rattle.gv_types.specs.Page.{IsPage}
 use Rattle.gv_types.specs.PageRange.{covers}

@@ -13,7 +13,7 @@ use Rattle.gv_types.specs.declared.operation.PageOp.TheVariants.{Map, Unmap, Unm
 use Rattle.gv_journal.specs.Restoring.{pages_named}
 use Rattle.gv_space.specs.Undo.{OpUndoState}
 use Rattle.gv_journal.specs.Reach.{extent_of, least_page, past_page, IsSilent}
-use Rattle.gv_journal.specs.Saying.{first_taken, last_covering, live_taken}
+use Rattle.gv_journal.specs.Covering.{first_taken, last_covering, live_taken}
 use Rattle.gv_journal.specs.Items.{done_by}
 use Rattle.gv_journal.specs.declared.item.Item.{Item}
 use Rattle.gv_ranges.specs.List.{at}

@@ -14,8 +14,8 @@ use Rattle.gv_journal.specs.Settling.{crosses, later, crossing}
 use Rattle.gv_journal.specs.declared.item.Item.{Item}
 use Rattle.gv_journal.specs.declared.item.ItemKind.{ItemKind}
 use Rattle.gv_journal.specs.declared.item.ItemKind.TheVariants.{Bind, Withdrawal}
-use Rattle.gv_journal.proofs.Noted.{named_is, note_at, length-notes}
-use Rattle.gv_journal.proofs.Leasts.{IsFirstAt, none_passes, first_passes, AtMost, at_most_each, StandsIn, stands_in}
+use Rattle.gv_journal.proofs.NotesByIndex.{named_is, note_at, length-notes}
+use Rattle.gv_journal.proofs.FirstAndLeast.{IsFirstAt, none_passes, first_passes, AtMost, at_most_each, StandsIn, stands_in}
 use Rattle.gv_journal.proofs.Settlings.{reversed_later}
 
 both : (b : Bool) → b ≡ true → b ≡ false → ⊥

@@ -1,4 +1,4 @@
--- The room that operations in turn may make.
+-- How much room for mappings a list may get while operations are applied (`GrowsFor`).
 use Rattle.std.proofs.Common.{◌≡◌, ℕ, ◌+◌, ◌*◌, ◌<◌, ◌≤◌, List, [], ◌∷◌, ◌++◌, length, max, map, take, drop, get_or, reverse, refl, sym, ◌∙◌, ap, arith, ⊎_elim}
 use Rattle.std.proofs.lemmas.Bool.{cases_lt}
 use Rattle.std.proofs.lemmas.List.{drop_more, take-append-drop, map-append, reverse-append}
@@ -14,7 +14,7 @@ use Rattle.gv_space.specs.Change.{GrowsJustFor}
 use Rattle.gv_journal.specs.Undoing.{reverted_by}
 use Rattle.gv_journal.specs.Applying.{after_all, does, all_do, longest, GrowsFor}
 use Rattle.gv_journal.proofs.Changing.{after_all-mappings}
-use Rattle.gv_journal.proofs.Turns.{rest_of}
+use Rattle.gv_journal.proofs.Verdicts.{rest_of}
 
 -- a change makes room for its own list alone
 pub grown_room : (ms : List Mapping) (old new : SpaceState) → GrowsJustFor ms old new → new.room ≤ max old.room (2 * max (length old.mappings) (length ms))

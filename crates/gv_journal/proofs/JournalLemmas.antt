@@ -7,8 +7,8 @@ use Rattle.gv_types.specs.declared.mapping.Mapping.{Mapping}
 use Rattle.gv_space.specs.State.{SpaceState, AreKept, IsUnchanged, new_space}
 use Rattle.gv_journal.specs.Items.{JournalState, entries}
 use Rattle.gv_journal.specs.History.{base, kept_by, Translates, UndoSavesTheView, Rewinds}
-use Rattle.gv_journal.specs.State.{FitsSpace}
-use Rattle.gv_journal.proofs.Held.{fits_room}
+use Rattle.gv_journal.specs.Fits.{FitsSpace}
+use Rattle.gv_journal.proofs.HeldItems.{fits_room}
 
 -- a journal of no item fits a space of which nothing is kept
 pub fits_empty : (s : SpaceState) (limit first : ℕ) → AreKept s [] → FitsSpace s (record { limit = limit; first = first; items = [] })
@@ -17,7 +17,7 @@ fits_empty s limit first kept = record { translates = λ page _. refl; saves = t
 -- so it does in the beginning
 pub fits_new : (area : BoundsState) (limits : LimitsState) (limit first : ℕ) → FitsSpace (new_space area limits) (record { limit = limit; first = first; items = [] })
 fits_new area limits limit first =
-    fits_empty (new_space area limits) limit first (record { placed = λ k d below. absurd (omega arith); kept = λ k d below. absurd (omega arith); kept_count = refl })
+    fits_empty (new_space area limits) limit first (record { valid = λ k d below. absurd (omega arith); kept = λ k d below. absurd (omega arith); kept_count = refl })
 
 -- A space in which only the buffers and their users changed, and in which all that is kept stays kept: a buffer was made or
 -- destroyed, or a job joined or left.

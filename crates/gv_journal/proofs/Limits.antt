@@ -1,4 +1,4 @@
--- The limits that operations pass in turn.
+-- The first limit that operations exceed, one after another (`limits_fault`).
 use Rattle.std.proofs.Common.{◌≡◌, ◌⊎◌, inl, inr, ℕ, ◌+◌, ◌<◌, Bool, true, false, cond, List, [], ◌∷◌, ◌++◌, map, take, drop, length, get_or, reverse, Option, Some, None, Result, Ok, Err, refl, ap, sym, ◌∙◌, subst, append_assoc}
 use Rattle.std.specs.Prelude.{MatchOption, IsOkUnless, ◌||◌, nat_lt}
 use Rattle.std.proofs.lemmas.List.{drop_more, take_more, map-append}
@@ -17,10 +17,10 @@ use Rattle.gv_space.specs.Counts.{ranges_of}
 use Rattle.gv_space.specs.State.{SpaceState, most_kept}
 use Rattle.gv_space.specs.Refusal.{first_of, dead_fault, limit_fault, count_met}
 use Rattle.gv_journal.specs.Applying.{after_op, after_all}
-use Rattle.gv_journal.specs.Verdict.{limits_fault, turn_fault}
-use Rattle.gv_journal.specs.Work.{IsUnmapAll, IsTurnRefused}
+use Rattle.gv_journal.specs.Verdict.{limits_fault, request_op_fault}
+use Rattle.gv_journal.specs.Work.{IsUnmapAll, IsOpRefused}
 use Rattle.gv_journal.proofs.Lists.{last_first}
-use Rattle.gv_journal.proofs.Passing.{same_err}
+use Rattle.gv_journal.proofs.FaultsPassedOn.{same_err}
 
 pub not_refused : {A : Type 0} (r : Result A Fault) (x : A) → r ≡ Ok x → (o : Option Fault) → MatchOption o (IsOkUnless r OutOfMemory) (λ g. r ≡ Err g) → o ≡ None
 not_refused r x is None h = refl
@@ -93,26 +93,26 @@ limits_more s now new ranges i r answer x below is ok why did was =
 
 -- memory was wanted where the buffer lives
 pub starved : (s : SpaceState) (id : BufferId) → dead_fault (pages s.buffers id) ≡ None →
-    (turn_fault s (UnmapBuffer id) ≡ None) ⊎ (IsUnmapAll (UnmapBuffer id) × (turn_fault s (UnmapBuffer id) ≡ Some TooManyMappings))
+    (request_op_fault s (UnmapBuffer id) ≡ None) ⊎ (IsUnmapAll (UnmapBuffer id) × (request_op_fault s (UnmapBuffer id) ≡ Some TooManyMappings))
 starved s id lives = of_limit (are_limits s (map Unmap (ranges_of id s.mappings)))
   where
-    turn : turn_fault s (UnmapBuffer id) ≡ limits_fault s (map Unmap (ranges_of id s.mappings))
+    turn : request_op_fault s (UnmapBuffer id) ≡ limits_fault s (map Unmap (ranges_of id s.mappings))
     turn = ap (λ (o : Option Fault). first_of o (limits_fault s (map Unmap (ranges_of id s.mappings)))) lives
 
     of_limit : IsLimit (limits_fault s (map Unmap (ranges_of id s.mappings))) →
-        (turn_fault s (UnmapBuffer id) ≡ None) ⊎ (IsUnmapAll (UnmapBuffer id) × (turn_fault s (UnmapBuffer id) ≡ Some TooManyMappings))
+        (request_op_fault s (UnmapBuffer id) ≡ None) ⊎ (IsUnmapAll (UnmapBuffer id) × (request_op_fault s (UnmapBuffer id) ≡ Some TooManyMappings))
     of_limit (inl none) = inl (turn ∙ none)
     of_limit (inr passed) = inr (record { buffer = id; is = refl }, turn ∙ passed)
 
-pub starved_is_refused : (s : SpaceState) (id : BufferId) → dead_fault (pages s.buffers id) ≡ None → IsTurnRefused s (UnmapBuffer id) OutOfMemory
+pub starved_is_refused : (s : SpaceState) (id : BufferId) → dead_fault (pages s.buffers id) ≡ None → IsOpRefused s (UnmapBuffer id) OutOfMemory
 starved_is_refused s id lives = inr (refl, starved s id lives)
 
 -- the ranges of a buffer were asked for in vain
 pub ranges_refused : {A : Type 0} (s : SpaceState) (id : BufferId) (r : Result A Fault) (fault : Fault) → r ≡ Err fault →
-    MatchOption (dead_fault (pages s.buffers id)) (IsOkUnless r OutOfMemory) (λ g. r ≡ Err g) → IsTurnRefused s (UnmapBuffer id) fault
+    MatchOption (dead_fault (pages s.buffers id)) (IsOkUnless r OutOfMemory) (λ g. r ≡ Err g) → IsOpRefused s (UnmapBuffer id) fault
 ranges_refused s id r fault is why = by_cases (dead_fault (pages s.buffers id)) refl why
   where
-    by_cases : (o : Option Fault) → dead_fault (pages s.buffers id) ≡ o → MatchOption o (IsOkUnless r OutOfMemory) (λ g. r ≡ Err g) → IsTurnRefused s (UnmapBuffer id) fault
+    by_cases : (o : Option Fault) → dead_fault (pages s.buffers id) ≡ o → MatchOption o (IsOkUnless r OutOfMemory) (λ g. r ≡ Err g) → IsOpRefused s (UnmapBuffer id) fault
     by_cases None lives h = inr (subst (λ x. IsOkUnless x OutOfMemory) is h, starved s id lives)
     by_cases (Some g) dead h =
         inl (ap (λ (o : Option Fault). first_of o (limits_fault s (map Unmap (ranges_of id s.mappings)))) dead ∙ ap (λ (f : Fault). Some f) (sym (same_err fault g r is h)))
@@ -126,15 +126,15 @@ lives_where_given s id r x is why = not_refused r x is (dead_fault (pages s.buff
 pub unmap_refused : {A : Type 0} (s now : SpaceState) (id : BufferId) (ranges : List PageRangeState) (i : ℕ) (r : PageRangeState) (answer : Result A Fault) (fault : Fault) → ranges ≡ ranges_of id s.mappings →
     i < length ranges → r ≡ get_or ranges i r → dead_fault (pages s.buffers id) ≡ None →
     limits_fault s (map Unmap ranges) ≡ limits_fault now (map Unmap (drop i ranges)) → answer ≡ Err fault →
-    MatchOption (limit_fault now r (edited now.mappings (Unmap r))) (IsOkUnless answer OutOfMemory) (λ g. answer ≡ Err g) → IsTurnRefused s (UnmapBuffer id) fault
+    MatchOption (limit_fault now r (edited now.mappings (Unmap r))) (IsOkUnless answer OutOfMemory) (λ g. answer ≡ Err g) → IsOpRefused s (UnmapBuffer id) fault
 unmap_refused s now id ranges i r answer fault are below is lives limits refused why = by_cases (limit_fault now r (edited now.mappings (Unmap r))) refl why
   where
-    turn : turn_fault s (UnmapBuffer id) ≡ limits_fault now (map Unmap (drop i ranges))
+    turn : request_op_fault s (UnmapBuffer id) ≡ limits_fault now (map Unmap (drop i ranges))
     turn =
         ap (λ (o : Option Fault). first_of o (limits_fault s (map Unmap (ranges_of id s.mappings)))) lives
         ∙ ap (λ (rs : List PageRangeState). limits_fault s (map Unmap rs)) (sym are) ∙ limits
 
-    by_cases : (o : Option Fault) → limit_fault now r (edited now.mappings (Unmap r)) ≡ o → MatchOption o (IsOkUnless answer OutOfMemory) (λ g. answer ≡ Err g) → IsTurnRefused s (UnmapBuffer id) fault
+    by_cases : (o : Option Fault) → limit_fault now r (edited now.mappings (Unmap r)) ≡ o → MatchOption o (IsOkUnless answer OutOfMemory) (λ g. answer ≡ Err g) → IsOpRefused s (UnmapBuffer id) fault
     by_cases None passed h = inr (subst (λ x. IsOkUnless x OutOfMemory) refused h, starved s id lives)
     by_cases (Some g) passed h =
         inl (turn ∙ limits_from now ranges i r below is ∙ ap (λ (o : Option Fault). first_of o (limits_fault (after_op now (Unmap r)) (map Unmap (drop (i + 1) ranges)))) passed

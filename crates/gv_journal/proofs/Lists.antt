@@ -1,4 +1,4 @@
--- Lists seen the other way round.
+-- A reversed list begins with the last element.
 use Rattle.std.proofs.Common.{◌≡◌, List, [], ◌∷◌, ◌++◌, reverse, ap, ◌∙◌}
 use Rattle.std.proofs.lemmas.List.{reverse-append}
 

@@ -1,4 +1,4 @@
--- For callers: lists of what is changed, seen the other way round.
+-- For callers: `reverse` and `map` may change places.
 use Rattle.std.proofs.Common.{◌≡◌, List, [], ◌∷◌, ◌++◌, map, reverse, refl, sym, ap, ◌∙◌}
 use Rattle.std.proofs.lemmas.List.{map-append, reverse-append}
 

@@ -9,7 +9,7 @@ use Rattle.gv_journal.specs.declared.item.Item.{Item}
 use Rattle.gv_journal.specs.declared.item.ItemKind.{ItemKind}
 use Rattle.gv_journal.specs.declared.item.ItemKind.TheVariants.{Bind, Withdrawal}
 use Rattle.gv_journal.proofs.Bindings.{not_named}
-use Rattle.gv_journal.proofs.Noted.{not_named_by, note_at, length-notes}
+use Rattle.gv_journal.proofs.NotesByIndex.{not_named_by, note_at, length-notes}
 use Rattle.gv_journal.proofs.SettledViews.{numbered-append, is_withdrawn-append, NoneCross}
 use Rattle.gv_journal.proofs.Settlings.{names_apart}
 use Rattle.std.proofs.lemmas.Bool.Decides.{nat_tests}

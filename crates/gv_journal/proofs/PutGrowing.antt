@@ -12,7 +12,7 @@ use Rattle.gv_space.specs.Change.{GrowsJustFor}
 use Rattle.gv_journal.specs.History.{AreUndosOf}
 use Rattle.gv_journal.specs.Restoring.{list_after_puts, longest_of_puts, GrowsForPuts, ArePutBack}
 use Rattle.gv_journal.specs.Withdrawing.{longest_withdrawn}
-use Rattle.gv_journal.proofs.Entries.{restored_same}
+use Rattle.gv_journal.proofs.WithdrawableItem.{restored_same}
 use Rattle.gv_journal.specs.Undoing.{reverted_by}
 use Rattle.gv_journal.proofs.Growing.{grown_room, reverted_by-same_room}
 use Rattle.gv_journal.proofs.Puts.{left_first}

@@ -11,7 +11,7 @@ use Rattle.gv_space.specs.Change.{IsChanged}
 use Rattle.gv_journal.specs.History.{AreUndosOf}
 use Rattle.gv_journal.specs.Restoring.{after_put, after_puts, list_after_puts, AreUndosOfPuts, ArePutBack}
 use Rattle.gv_journal.specs.Withdrawing.{AreUndosOfWithdrawal}
-use Rattle.gv_journal.proofs.Entries.{restored_same}
+use Rattle.gv_journal.proofs.WithdrawableItem.{restored_same}
 
 pub after_puts-mappings : (us : List OpUndoState) (s : SpaceState) → (after_puts us s).mappings ≡ list_after_puts us s.mappings
 after_puts-mappings [] s = refl

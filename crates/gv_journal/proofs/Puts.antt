@@ -1,4 +1,4 @@
--- One undo value more put back.
+-- A withdrawal restores what undo values took, one after another: one more keeps `ArePutBack`.
 use Rattle.std.proofs.Common.{◌≡◌, ◌⊎◌, inl, inr, ℕ, ◌+◌, ◌-◌, ◌<◌, ◌≤◌, cond, List, [], ◌∷◌, ◌++◌, length, take, drop, reverse, get_or, Option, Some, None, Result, Ok, Err, refl, ap, sym, ◌∙◌, subst, arith, append_assoc}
 use Rattle.std.specs.Prelude.{MatchOption, IsOkUnless}
 use Rattle.std.proofs.lemmas.List.{drop_more, take_more, reverse-append, take-append-drop}
@@ -21,7 +21,7 @@ use Rattle.gv_journal.specs.Restoring.{after_put, after_puts, put_limits, put_ba
 use Rattle.gv_journal.proofs.Lists.{last_first}
 use Rattle.gv_journal.proofs.Runs.{taken_met}
 use Rattle.gv_journal.proofs.Limits.{not_refused}
-use Rattle.gv_journal.proofs.Passing.{same_err}
+use Rattle.gv_journal.proofs.FaultsPassedOn.{same_err}
 use Rattle.gv_journal.proofs.Changing.{AreChanges-none, AreChanges-more}
 
 after_puts-last : (newer : List OpUndoState) (u : OpUndoState) (s : SpaceState) → after_puts (newer ++ u ∷ []) s ≡ after_put (after_puts newer s) u

@@ -32,20 +32,20 @@ bit_of_either a b i (inr one) = let most : bit_at a i ≤ 1 = omega arith in ome
 
 -- a bit of a number that is turned to the left
 module _ (n by j : ℕ) (within : j < 128) (one : bit_at n j ≡ 1) where
-  abbrev turn : ℕ
-  turn = by % 128
+  abbrev rotation : ℕ
+  rotation = by % 128
 
-  turned_or_back : (turn + j < 128) ⊎ (128 ≤ turn + j) → (bit_at ((n * 2 ^ turn) % 2 ^ 128) ((by + j) % 128) ≡ 1) ⊎ (bit_at (n / 2 ^ ((128 - turn) % 128)) ((by + j) % 128) ≡ 1)
+  turned_or_back : (rotation + j < 128) ⊎ (128 ≤ rotation + j) → (bit_at ((n * 2 ^ rotation) % 2 ^ 128) ((by + j) % 128) ≡ 1) ⊎ (bit_at (n / 2 ^ ((128 - rotation) % 128)) ((by + j) % 128) ≡ 1)
   turned_or_back (inl less) =
-      let place : (by + j) % 128 ≡ turn + j = omega arith in
-      inl (ap (bit_at ((n * 2 ^ turn) % 2 ^ 128)) place ∙ bit_low (n * 2 ^ turn) (turn + j) less ∙ bit_shifted n turn j ∙ one)
+      let place : (by + j) % 128 ≡ rotation + j = omega arith in
+      inl (ap (bit_at ((n * 2 ^ rotation) % 2 ^ 128)) place ∙ bit_low (n * 2 ^ rotation) (rotation + j) less ∙ bit_shifted n rotation j ∙ one)
   turned_or_back (inr more) =
-      let back : (128 - turn) % 128 ≡ 128 - turn = omega arith in
-      let place : (128 - turn) + (by + j) % 128 ≡ j = omega arith in
-      inr (ap (λ (k : ℕ). bit_at (n / 2 ^ k) ((by + j) % 128)) back ∙ bit_unshifted n (128 - turn) ((by + j) % 128) ∙ ap (bit_at n) place ∙ one)
+      let back : (128 - rotation) % 128 ≡ 128 - rotation = omega arith in
+      let place : (128 - rotation) + (by + j) % 128 ≡ j = omega arith in
+      inr (ap (λ (k : ℕ). bit_at (n / 2 ^ k) ((by + j) % 128)) back ∙ bit_unshifted n (128 - rotation) ((by + j) % 128) ∙ ap (bit_at n) place ∙ one)
 
   bit_turned : bit_at (rotate_left w128 n by) ((by + j) % 128) ≡ 1
-  bit_turned = bit_of_either ((n * 2 ^ turn) % 2 ^ 128) (n / 2 ^ ((128 - turn) % 128)) ((by + j) % 128) (turned_or_back (cases_lt (turn + j) 128))
+  bit_turned = bit_of_either ((n * 2 ^ rotation) % 2 ^ 128) (n / 2 ^ ((128 - rotation) % 128)) ((by + j) % 128) (turned_or_back (cases_lt (rotation + j) 128))
 
 -- the bit of the region of a page
 abbrev IsMarked : ℕ → ℕ → Type 0

@@ -11,7 +11,7 @@ use Rattle.gv_space.specs.Refusal.{first_of, operation_fault, limit_fault}
 use Rattle.gv_space.specs.Undo.{OpUndoState, reverted}
 use Rattle.gv_journal.specs.Undoing.{reverted_by}
 use Rattle.gv_journal.specs.Applying.{after_op, after_all, does}
-use Rattle.gv_journal.specs.Verdict.{limits_fault, turn_fault, refused_or, verdict_from}
+use Rattle.gv_journal.specs.Verdict.{limits_fault, request_op_fault, refused_or, verdict_from}
 use Rattle.gv_journal.specs.Withdrawing.{after_restore, after_withdrawal, withdrawal_limits}
 
 -- a space with so much room
@@ -26,16 +26,16 @@ limits_fault-room : (room : ℕ) (s : SpaceState) (ops : List PageOp) → limits
 limits_fault-room room s [] = refl
 limits_fault-room room s (op ∷ ops) = ap (first_of (limit_fault s (range_of op) (edited s.mappings op))) (limits_fault-room room (after_op s op) ops)
 
-turn_fault-room : (room : ℕ) (s : SpaceState) (op : Op) → turn_fault (with_room room s) op ≡ turn_fault s op
-turn_fault-room room s op = ap (first_of (operation_fault s op)) (limits_fault-room room s (does s.mappings op))
+request_op_fault-room : (room : ℕ) (s : SpaceState) (op : Op) → request_op_fault (with_room room s) op ≡ request_op_fault s op
+request_op_fault-room room s op = ap (first_of (operation_fault s op)) (limits_fault-room room s (does s.mappings op))
 
 -- the verdict on operations
 pub verdict_from-room : (room : ℕ) (from : ℕ) (s : SpaceState) (ops : List Op) → verdict_from from (with_room room s) ops ≡ verdict_from from s ops
 verdict_from-room room from s [] = refl
 verdict_from-room room from s (op ∷ ops) =
-    ap (λ (t : SpaceState). refused_or from (turn_fault (with_room room s) op) (verdict_from (from + 1) t ops)) (after_all-room room (reverse (does s.mappings op)) s)
-    ∙ ap (refused_or from (turn_fault (with_room room s) op)) (verdict_from-room room (from + 1) (after_all (reverse (does s.mappings op)) s) ops)
-    ∙ ap (λ (o : Option Fault). refused_or from o (verdict_from (from + 1) (after_all (reverse (does s.mappings op)) s) ops)) (turn_fault-room room s op)
+    ap (λ (t : SpaceState). refused_or from (request_op_fault (with_room room s) op) (verdict_from (from + 1) t ops)) (after_all-room room (reverse (does s.mappings op)) s)
+    ∙ ap (refused_or from (request_op_fault (with_room room s) op)) (verdict_from-room room (from + 1) (after_all (reverse (does s.mappings op)) s) ops)
+    ∙ ap (λ (o : Option Fault). refused_or from o (verdict_from (from + 1) (after_all (reverse (does s.mappings op)) s) ops)) (request_op_fault-room room s op)
 
 pub after_withdrawal-room : (room : ℕ) (before : List Mapping) (ops : List PageOp) (s : SpaceState) → after_withdrawal before ops (with_room room s) ≡ with_room room (after_withdrawal before ops s)
 after_withdrawal-room room before [] s = refl

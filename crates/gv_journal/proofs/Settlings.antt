@@ -15,11 +15,11 @@ use Rattle.gv_journal.specs.Items.{JournalState, next, NumberedItem, numbered, e
 use Rattle.gv_journal.specs.History.{undos_of, kept_by, back, base, Translates, Rewinds}
 use Rattle.gv_journal.specs.Settling.{crosses, crossing, later, earlier, settle_fault, IsSettled}
 use Rattle.gv_types.specs.declared.fault.Fault.TheVariants.{Crossed}
-use Rattle.gv_journal.specs.State.{FitsOver, FitsSpace}
+use Rattle.gv_journal.specs.Fits.{FitsOver, FitsSpace}
 use Rattle.gv_journal.specs.Inside.{NameOlder}
 use Rattle.gv_journal.specs.declared.item.Item.{Item}
-use Rattle.gv_journal.proofs.Histories.{kept_by-append}
-use Rattle.gv_journal.proofs.Held.{journaled}
+use Rattle.gv_journal.proofs.KeptMappings.{kept_by-append}
+use Rattle.gv_journal.proofs.HeldItems.{journaled}
 use Rattle.std.proofs.lemmas.Iterator.Adapters.{position_from-zero}
 use Rattle.std.specs.List.{position_from}
 use Rattle.gv_journal.proofs.SettledViews.{numbered-append, NoneCross, translates_settled, saves_settled, rewinds_settled}

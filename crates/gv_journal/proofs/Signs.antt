@@ -1,4 +1,4 @@
--- Comparisons by the signs of differences.
+-- Page numbers compared by the sign bit of a wrapped difference.
 use Rattle.std.proofs.Common.{◌≡◌, ℕ, ◌+◌, ◌-◌, ◌%◌, ◌^◌, ◌<◌, ◌≤◌, List, get_or, inl, inr, ap, arith}
 use Rattle.std.specs.Prelude.{◌⊎◌, bit_and, bit_or}
 use Rattle.std.specs.Int.{bit_at}

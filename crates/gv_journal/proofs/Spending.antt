@@ -1,4 +1,4 @@
--- Items spent in turn, the last one first.
+-- Items release their undo values one after another, the newest item first.
 use Rattle.std.proofs.Common.{◌≡◌, ℕ, ◌+◌, ◌-◌, ◌<◌, ◌≤◌, List, [], ◌∷◌, ◌++◌, take, drop, length, reverse, get_or, set, ap, sym, ◌∙◌, subst, arith, append_assoc}
 use Rattle.std.specs.List.{All}
 use Rattle.std.proofs.lemmas.List.{take_more, take-set, drop-set, take-take}

@@ -1,4 +1,4 @@
--- Undo values spent in turn.
+-- A list of undo values is reverted or released one after another, the newest first.
 use Rattle.std.proofs.Common.{◌≡◌, List, [], ◌∷◌, ◌++◌, refl, ap, sym, ◌∙◌, subst, append_assoc}
 use Rattle.gv_types.specs.declared.mapping.Mapping.{Mapping}
 use Rattle.gv_space.specs.State.{SpaceState, AreKept}

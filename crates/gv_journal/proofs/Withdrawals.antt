@@ -17,7 +17,7 @@ use Rattle.gv_space.specs.declared.undo.OpUndo.{OpUndo}
 use Rattle.gv_journal.specs.Undoing.{undone_by}
 use Rattle.gv_journal.specs.Items.{numbered, is_withdrawn, done_by, ops_without, view}
 use Rattle.gv_journal.specs.History.{undos_of, kept_by, Translates, Save, SavesBelow, ItemSaves, EachSaves, Rewinds, AreUndosOf}
-use Rattle.gv_journal.specs.State.{FitsOver}
+use Rattle.gv_journal.specs.Fits.{FitsOver}
 use Rattle.gv_journal.specs.Withdrawing.{touch}
 use Rattle.gv_journal.specs.Restoring.{put_back, ArePutBack}
 use Rattle.gv_journal.specs.declared.item.Item.{Item}
@@ -25,7 +25,7 @@ use Rattle.gv_journal.specs.declared.item.ItemKind.{ItemKind}
 use Rattle.gv_journal.specs.declared.item.ItemKind.TheVariants.{Bind, Withdrawal}
 use Rattle.gv_journal.proofs.Views.{view-at, view-append}
 use Rattle.gv_journal.proofs.Bindings.{bound}
-use Rattle.gv_journal.proofs.Histories.{Rewinds-room}
+use Rattle.gv_journal.proofs.KeptMappings.{Rewinds-room}
 use Rattle.gv_journal.proofs.SettledViews.{view_over, ops_without-same, SameGone}
 use Rattle.gv_journal.proofs.Touches.{covers_any, view-silent, any-reverse, NoneTouch, newer_silent, touch_none, Save-where}
 

@@ -15,17 +15,17 @@ use Rattle.gv_space.specs.declared.undo.OpUndo.{OpUndo}
 use Rattle.gv_journal.specs.Undoing.{taken_by}
 use Rattle.gv_journal.specs.Items.{JournalState, numbered, entries, next, is_withdrawn, done_by, view_without}
 use Rattle.gv_journal.specs.History.{undos_of, kept_by, back, base, IsDone, AreUndosOf, Rewinds}
-use Rattle.gv_journal.specs.State.{FitsOver, FitsSpace}
+use Rattle.gv_journal.specs.Fits.{FitsOver, FitsSpace}
 use Rattle.gv_journal.specs.Verdict.{full_fault}
 use Rattle.gv_journal.specs.Withdrawing.{item_at, found_fault, entry_fault, after_withdrawal, withdrawal_limits, list_before, done_of, ops_at, withdraw_fault, longest_withdrawn, GrowsForWithdrawal, AreUndosOfWithdrawal, IsWithdrawRefused, IsWithdrawn}
 use Rattle.gv_journal.specs.Restoring.{put_limits, longest_of_puts, GrowsForPuts, AreUndosOfPuts, ArePutBack}
 use Rattle.gv_journal.specs.declared.item.Item.{Item}
 use Rattle.gv_journal.specs.declared.item.ItemKind.{ItemKind}
 use Rattle.gv_journal.proofs.Bindings.{bound, base_stays}
-use Rattle.gv_journal.proofs.Held.{journaled}
+use Rattle.gv_journal.proofs.HeldItems.{journaled}
 use Rattle.gv_journal.proofs.Touches.{covers_any, NoneTouch, none_touch}
-use Rattle.gv_journal.proofs.Founds.{item_found}
-use Rattle.gv_journal.proofs.Entries.{IsWithdrawable, withdrawable, items_around, older_count, done_at, item_kept, after_puts_are, put_limits_are, after_withdrawal-mappings, after_withdrawal-limit}
+use Rattle.gv_journal.proofs.FoundItems.{item_found}
+use Rattle.gv_journal.proofs.WithdrawableItem.{IsWithdrawable, withdrawable, items_around, older_count, done_at, item_kept, after_puts_are, put_limits_are, after_withdrawal-mappings, after_withdrawal-limit}
 use Rattle.gv_journal.proofs.PutUndos.{AreUndosOfWithdrawal-puts}
 use Rattle.gv_journal.proofs.PutGrowing.{longest_of_puts-withdrawn}
 use Rattle.gv_journal.proofs.Withdrawals.{withdrawal, fits_over_withdrawn, put_is_view, others_stay}

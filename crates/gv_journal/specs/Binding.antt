@@ -1,4 +1,4 @@
--- What a call makes of a journal and its address space.
+-- What `bind` and `rewind` make of a journal and its address space.
 use Rattle.std.specs.Prelude.{Vec, ◌≡◌, ℕ, ◌∷◌, reverse}
 use Rattle.std.specs.Global.{Global}
 use Rattle.gv_types.specs.declared.operation.PageOp.{PageOp}

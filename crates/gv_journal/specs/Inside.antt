@@ -1,4 +1,4 @@
--- What a journal keeps of its parts. No public clause cites this module.
+-- The invariant of a journal's fields: which items withdrawals name, and the notes. No public clause cites this module.
 use Rattle.std.specs.Prelude.{◌≡◌, ℕ, ◌<◌, ◌≤◌, false, List, [], ◌∷◌, reverse}
 use Rattle.gv_journal.specs.Items.{JournalState, NumberedItem, entries, next, is_withdrawn}
 use Rattle.gv_journal.specs.Notes.{notes_of}

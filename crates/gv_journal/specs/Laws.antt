@@ -6,7 +6,7 @@ use Rattle.gv_types.specs.declared.mapping.Entry.{Entry}
 use Rattle.gv_types.specs.declared.mapping.Mapping.{Mapping}
 use Rattle.gv_space.specs.State.{SpaceState, AreKept, IsUnchanged, new_space}
 use Rattle.gv_journal.specs.Items.{JournalState, NumberedItem, names, view, view_without}
-use Rattle.gv_journal.specs.State.{FitsSpace}
+use Rattle.gv_journal.specs.Fits.{FitsSpace}
 
 -- a new journal fits a new space
 abbrev pub NewJournalFits : Type 0

@@ -1,7 +1,7 @@
 pub mod Items
 pub mod Undoing
 pub mod History
-pub mod State
+pub mod Fits
 pub mod Applying
 pub mod Verdict
 pub mod Binding
@@ -16,5 +16,5 @@ pub mod Settling
 pub mod Withdrawing
 pub mod Restoring
 pub mod Laws
-pub mod Saying
+pub mod Covering
 pub mod Bare

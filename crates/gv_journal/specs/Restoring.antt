@@ -1,4 +1,4 @@
--- Undo values put back, the newest first. No public clause cites this module.
+-- For a withdrawal: what undo values took is put back, that of the newest first. No public clause cites this module.
 use Rattle.std.specs.Prelude.{◌≡◌, ℕ, ◌*◌, ◌≤◌, if◌then◌else◌, List, [], ◌∷◌, length, max, Option, Some, None}
 use Rattle.gv_types.specs.Page.{IsPage}
 use Rattle.gv_types.specs.PageRange.{PageRangeState, covers}

@@ -33,8 +33,8 @@ limits_fault s [] = None
 limits_fault s (op ∷ ops) = first_of (limit_fault s (range_of op) (edited s.mappings op)) (limits_fault (after_op s op) ops)
 
 -- the first fault of an operation of a request: its own, then the limits at what it does
-abbrev pub turn_fault : SpaceState → Op → Option Fault
-turn_fault s op = first_of (operation_fault s op) (limits_fault s (does s.mappings op))
+abbrev pub request_op_fault : SpaceState → Op → Option Fault
+request_op_fault s op = first_of (operation_fault s op) (limits_fault s (does s.mappings op))
 
 abbrev pub refusal : ℕ → Fault → Refusal
 refusal op fault = record { op = op; fault = fault }
@@ -47,7 +47,7 @@ refused_or op None later = later
 abbrev pub verdict_from : ℕ → SpaceState → List Op → Option Refusal
 verdict_from from s [] = None
 verdict_from from s (op ∷ ops) =
-    refused_or from (turn_fault s op) (verdict_from (from + 1) (after_all (reverse (does s.mappings op)) s) ops)
+    refused_or from (request_op_fault s op) (verdict_from (from + 1) (after_all (reverse (does s.mappings op)) s) ops)
 
 -- why a request is refused before its operations
 abbrev pub request_fault : JournalState → List Op → Option Fault

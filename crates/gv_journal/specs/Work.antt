@@ -7,7 +7,7 @@ use Rattle.gv_types.specs.declared.operation.Op.{Op}
 use Rattle.gv_types.specs.declared.operation.Op.TheVariants.{UnmapBuffer}
 use Rattle.gv_space.specs.State.{SpaceState}
 use Rattle.gv_journal.specs.Applying.{AreApplied}
-use Rattle.gv_journal.specs.Verdict.{turn_fault, verdict_from, ComesBefore}
+use Rattle.gv_journal.specs.Verdict.{request_op_fault, verdict_from, ComesBefore}
 use Rattle.gv_journal.specs.declared.applying.Work.{Work}
 use Rattle.gv_journal.specs.declared.refusal.Refusal.{Refusal}
 
@@ -28,10 +28,10 @@ pub record IsUnmapAll (op : Op) : Type 0 where
   pub is : op ≡ UnmapBuffer buffer
 
 -- An operation is refused by its fault, or for want of memory, which comes before the limits in an unmap of a whole buffer.
-abbrev pub IsTurnRefused : SpaceState → Op → Fault → Type 0
-IsTurnRefused s op fault =
-    (turn_fault s op ≡ Some fault)
-    ⊎ ((fault ≡ OutOfMemory) × ((turn_fault s op ≡ None) ⊎ (IsUnmapAll op × (turn_fault s op ≡ Some TooManyMappings))))
+abbrev pub IsOpRefused : SpaceState → Op → Fault → Type 0
+IsOpRefused s op fault =
+    (request_op_fault s op ≡ Some fault)
+    ⊎ ((fault ≡ OutOfMemory) × ((request_op_fault s op ≡ None) ⊎ (IsUnmapAll op × (request_op_fault s op ≡ Some TooManyMappings))))
 
 -- a request of which the first operation has this number is refused by its verdict, or for want of memory at an operation
 abbrev pub IsRefusedInTurn : SpaceState → List Op → Refusal → Type 0

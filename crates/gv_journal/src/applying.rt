@@ -1,4 +1,4 @@
-//! A request applied: its operations in turn, until one is refused.
+//! A request applied: its operations in order, until one is refused.
 ghost use Rattle.std.specs.Prelude.{◌≡◌, ℕ, List, ◌+◌, ◌<◌, ◌≤◌, ◌++◌, [], ◌∷◌, IsTrue, reverse, vec_len, vec_capacity, length};
 ghost use Rattle.std.specs.Prelude.{IfOk, IfErr, OnOk, OnErr, IsOkUnless, MatchOption};
 ghost use Rattle.std.specs.List.{All};
@@ -6,13 +6,13 @@ ghost use Rattle.gv_types.specs.Operation.{has_range, in_pages, own_mapping, ran
 ghost use Rattle.gv_types.specs.declared.mapping.Mapping.{Mapping};
 ghost use Rattle.gv_types.specs.declared.operation.Op.TheVariants.{UnmapBuffer};
 ghost use Rattle.gv_ranges.specs.Edit.{edited};
-ghost use Rattle.gv_space.specs.State.{SpaceState, AreKept, IsPlaced, IsUnchanged};
+ghost use Rattle.gv_space.specs.State.{SpaceState, AreKept, IsValidMapping, IsUnchanged};
 ghost use Rattle.gv_space.specs.Refusal.{apply_fault, limit_fault};
 ghost use Rattle.gv_space.specs.Undo.{AreAmongKept};
 ghost use Rattle.gv_journal.specs.Undoing.{taken_by, reverted_by, AreRevertible};
 ghost use Rattle.gv_journal.specs.Applying.{after_op, after_all, does, all_do, AreApplied, GrowsFor};
-ghost use Rattle.gv_journal.specs.Verdict.{turn_fault, verdict_from};
-ghost use Rattle.gv_journal.specs.Work.{HasRoom, Continues, IsTurnRefused, IsRefusedInTurn};
+ghost use Rattle.gv_journal.specs.Verdict.{request_op_fault, verdict_from};
+ghost use Rattle.gv_journal.specs.Work.{HasRoom, Continues, IsOpRefused, IsRefusedInTurn};
 
 use crate::refusal::Refusal;
 use crate::undoing::revert_all;
@@ -50,7 +50,7 @@ fn reserve(work: &mut Work, more: usize) -> Result<(), OutOfMemory>
 /// Applies an operation in pages, which has passed the checks, and notes it beside its undo value.
 fn apply_pages(alloc: Global, space: &mut Space, work: &mut Work, op: &PageOp) -> Result<(), Fault>
     requires pages { IsPageOp op.now }
-    requires placed { All (IsPlaced space.old.area space.old.buffers) (own_mapping op.now) }
+    requires valid { All (IsValidMapping space.old.area space.old.buffers) (own_mapping op.now) }
     requires room { HasRoom 1 work.old }
     ensures fault { MatchOption (limit_fault space.old (range_of op.now) (edited space.old.mappings op.now))
         (IsOkUnless result Fault.OutOfMemory) (λ fault. result ≡ Err fault) }
@@ -58,7 +58,7 @@ fn apply_pages(alloc: Global, space: &mut Space, work: &mut Work, op: &PageOp) -
     ensures ops { OnOk result (work.new.ops.items ≡ work.old.ops.items ++ op.now ∷ []) }
     ensures state { OnOk result
         (space.new ≡ record (after_op space.old op.now) { room = space.new.room }) }
-    ensures room { OnOk result ((left : ℕ) → HasRoom (1 + left) work.old → HasRoom left work.new) }
+    ensures room { OnOk result ((remaining : ℕ) → HasRoom (1 + remaining) work.old → HasRoom remaining work.new) }
     ensures grown { GrowsFor (op.now ∷ []) space.old space.new }
 {
     // The borrow checker proves this only where the function names the types inside the operation.
@@ -83,7 +83,7 @@ fn apply_ranged(alloc: Global, space: &mut Space, work: &mut Work, op: &Op) -> R
     ensures ops { OnOk result (work.new.ops.items ≡ work.old.ops.items ++ in_pages op.now ∷ []) }
     ensures state { OnOk result
         (space.new ≡ record (after_op space.old (in_pages op.now)) { room = space.new.room }) }
-    ensures room { OnOk result ((left : ℕ) → HasRoom (1 + left) work.old → HasRoom left work.new) }
+    ensures room { OnOk result ((remaining : ℕ) → HasRoom (1 + remaining) work.old → HasRoom remaining work.new) }
     ensures grown { GrowsFor (in_pages op.now ∷ []) space.old space.new }
 {
     let op = match space.check(op) {
@@ -93,30 +93,30 @@ fn apply_ranged(alloc: Global, space: &mut Space, work: &mut Work, op: &Op) -> R
     apply_pages(alloc, space, work, &op)
 }
 
-/// Unmaps each mapping of a buffer, in ascending order, and leaves room for `left` operations more.
+/// Unmaps each mapping of a buffer, in ascending order, and leaves room for `remaining` operations more.
 fn unmap_all(
     alloc: Global,
     space: &mut Space,
     work: &mut Work,
     id: BufferId,
-    left: usize,
+    remaining: usize,
 ) -> Result<(), Fault>
-    requires few { left ≤ 256 }
-    ensures ok { OnOk result (turn_fault space.old (UnmapBuffer id) ≡ None) }
-    ensures err { IfErr result (IsTurnRefused space.old (UnmapBuffer id)) }
+    requires few { remaining ≤ 256 }
+    ensures ok { OnOk result (request_op_fault space.old (UnmapBuffer id) ≡ None) }
+    ensures err { IfErr result (IsOpRefused space.old (UnmapBuffer id)) }
     ensures continues { Continues space.old space.new work.old work.new }
     ensures ops { OnOk result
         (work.new.ops.items ≡ work.old.ops.items ++ does space.old.mappings (UnmapBuffer id)) }
     ensures state { OnOk result (space.new
         ≡ record (after_all (reverse (does space.old.mappings (UnmapBuffer id))) space.old) { room = space.new.room }) }
-    ensures room { OnOk result (HasRoom left work.new) }
+    ensures room { OnOk result (HasRoom remaining work.new) }
     ensures grown { GrowsFor (does space.old.mappings (UnmapBuffer id)) space.old space.new }
 {
     let ranges = match space.buffer_ranges(alloc, id) {
         Ok(ranges) => ranges,
         Err(fault) => return Err(fault),
     };
-    if reserve(work, ranges.len() + left).is_err() {
+    if reserve(work, ranges.len() + remaining).is_err() {
         return Err(Fault::OutOfMemory);
     }
     for range in &ranges {
@@ -128,51 +128,51 @@ fn unmap_all(
     Ok(())
 }
 
-/// Applies an operation that names its pages, and leaves room for `left` operations more.
+/// Applies an operation that names its pages, and leaves room for `remaining` operations more.
 fn apply_named(
     alloc: Global,
     space: &mut Space,
     work: &mut Work,
     op: &Op,
-    left: usize,
+    remaining: usize,
 ) -> Result<(), Fault>
     requires ranged { IsTrue (has_range op.now) }
-    requires room { HasRoom (1 + left) work.old }
-    ensures ok { OnOk result (turn_fault space.old op.now ≡ None) }
-    ensures err { IfErr result (IsTurnRefused space.old op.now) }
+    requires room { HasRoom (1 + remaining) work.old }
+    ensures ok { OnOk result (request_op_fault space.old op.now ≡ None) }
+    ensures err { IfErr result (IsOpRefused space.old op.now) }
     ensures continues { Continues space.old space.new work.old work.new }
     ensures ops { OnOk result (work.new.ops.items ≡ work.old.ops.items ++ does space.old.mappings op.now) }
     ensures state { OnOk result (space.new
         ≡ record (after_all (reverse (does space.old.mappings op.now)) space.old) { room = space.new.room }) }
-    ensures room { OnOk result (HasRoom left work.new) }
+    ensures room { OnOk result (HasRoom remaining work.new) }
     ensures grown { GrowsFor (does space.old.mappings op.now) space.old space.new }
 {
     apply_ranged(alloc, space, work, op)
 }
 
-/// Applies an operation of a request, and leaves room for `left` operations more.
+/// Applies an operation of a request, and leaves room for `remaining` operations more.
 fn apply_op(
     alloc: Global,
     space: &mut Space,
     work: &mut Work,
     op: &Op,
-    left: usize,
+    remaining: usize,
 ) -> Result<(), Fault>
-    requires few { left ≤ 256 }
-    requires room { HasRoom (1 + left) work.old }
-    ensures ok { OnOk result (turn_fault space.old op.now ≡ None) }
-    ensures err { IfErr result (IsTurnRefused space.old op.now) }
+    requires few { remaining ≤ 256 }
+    requires room { HasRoom (1 + remaining) work.old }
+    ensures ok { OnOk result (request_op_fault space.old op.now ≡ None) }
+    ensures err { IfErr result (IsOpRefused space.old op.now) }
     ensures continues { Continues space.old space.new work.old work.new }
     ensures ops { OnOk result (work.new.ops.items ≡ work.old.ops.items ++ does space.old.mappings op.now) }
     ensures state { OnOk result (space.new
         ≡ record (after_all (reverse (does space.old.mappings op.now)) space.old) { room = space.new.room }) }
-    ensures room { OnOk result (HasRoom left work.new) }
+    ensures room { OnOk result (HasRoom remaining work.new) }
     ensures grown { GrowsFor (does space.old.mappings op.now) space.old space.new }
 {
     match *op {
-        Op::UnmapBuffer { buffer } => unmap_all(alloc, space, work, buffer, left),
+        Op::UnmapBuffer { buffer } => unmap_all(alloc, space, work, buffer, remaining),
         Op::Map { .. } | Op::MapZero { .. } | Op::Unmap { .. } => {
-            apply_named(alloc, space, work, op, left)
+            apply_named(alloc, space, work, op, remaining)
         }
     }
 }
@@ -197,14 +197,14 @@ pub fn apply_all(alloc: Global, space: &mut Space, ops: &[Op]) -> Result<Work, R
             });
         }
     };
-    for (turn, op) in ops.iter().enumerate() {
-        let left = ops.len() - turn - 1;
-        match apply_op(alloc, space, &mut work, op, left) {
+    for (index, op) in ops.iter().enumerate() {
+        let remaining = ops.len() - index - 1;
+        match apply_op(alloc, space, &mut work, op, remaining) {
             Ok(()) => {}
             Err(fault) => {
                 give_back(space, work);
                 return Err(Refusal {
-                    op: turn as u64,
+                    op: index as u64,
                     fault,
                 });
             }

@@ -125,7 +125,7 @@ impl Columns {
         self.regions.push_reserved(reach.regions);
     }
 
-    /// Leaves the oldest items alone.
+    /// Keeps the first `count` items, the oldest, and drops the others.
     pub fn truncate(&mut self, count: usize)
         ensures notes { self.new.notes ≡ take count self.old.notes }
         ensures firsts { self.new.firsts ≡ take count self.old.firsts }
@@ -140,7 +140,7 @@ impl Columns {
     }
 
     /// Lets the oldest items go.
-    pub fn let_go(&mut self, count: usize)
+    pub fn drop_oldest(&mut self, count: usize)
         requires { count ≤ length self.old.notes }
         ensures notes { self.new.notes ≡ drop count self.old.notes }
         ensures firsts { self.new.firsts ≡ drop count self.old.firsts }

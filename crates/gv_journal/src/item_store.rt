@@ -92,7 +92,7 @@ impl ItemStore {
     /// first one, which wraps for a page before it, one comparison tells both: of many items one after another, nobody can foretell
     /// on which side of them a page lies.
     #[inline(always)]
-    pub fn covers(&self, index: usize, page: u64) -> bool
+    pub fn spans_page(&self, index: usize, page: u64) -> bool
         requires { index < length self.now.items }
         ensures { (item : Item) → result ≡ item_covers (slice_index_or self.now.items index item) page }
     {
@@ -137,7 +137,7 @@ impl ItemStore {
         let held = self.items.len() - self.spent;
         self.items.rotate_left(self.spent);
         drop_spent(&mut self.items, held);
-        self.columns.let_go(self.spent);
+        self.columns.drop_oldest(self.spent);
         self.spent = 0;
     }
 

@@ -17,7 +17,7 @@ use std::marker::Model;
 
 mod entry;
 
-pub use entry::{HeldItem, Said};
+pub use entry::{CoveringOp, HeldItem};
 
 /// A request has at most so many operations.
 pub const MAX_OPS: usize = 256;
@@ -50,9 +50,9 @@ impl Journal {
     ghost use Rattle.gv_space.specs.State.{SpaceState, AreKept, IsUnchanged};
     ghost use Rattle.gv_space.specs.Undo.{released};
     ghost use Rattle.gv_journal.specs.Items.{entries, next};
-    ghost use Rattle.gv_journal.specs.Saying.{WereLive};
+    ghost use Rattle.gv_journal.specs.Covering.{WereLive};
     ghost use Rattle.gv_journal.specs.History.{back, kept_by};
-    ghost use Rattle.gv_journal.specs.State.{FitsSpace};
+    ghost use Rattle.gv_journal.specs.Fits.{FitsSpace};
     ghost use Rattle.gv_journal.specs.Verdict.{verdict, full_fault, IsRefused};
     ghost use Rattle.gv_journal.specs.Settling.{settle_fault, later, crosses, IsSettled};
     ghost use Rattle.gv_journal.specs.Withdrawing.{withdraw_fault, IsWithdrawRefused, IsWithdrawn, GrowsForWithdrawal};

@@ -34,6 +34,6 @@ mod touching;
 mod undoing;
 
 pub use item::{Item, ItemKind};
-pub use journal::{HeldItem, Journal, MAX_OPS, Said};
+pub use journal::{CoveringOp, HeldItem, Journal, MAX_OPS};
 pub use ready::ReadyRequest;
 pub use refusal::Refusal;

@@ -1,4 +1,4 @@
-//! A part of the items of a journal.
+//! A slice of a journal's items, with what the columns have beside them.
 ghost use Rattle.std.specs.Prelude.{◌≡◌, ◌-◌, ◌<◌, ◌≤◌, length, take, drop, slice_index_or};
 ghost use Rattle.gv_types.specs.Page.{PAGES};
 ghost use Rattle.gv_journal.specs.Items.{done_by};

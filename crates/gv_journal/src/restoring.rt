@@ -1,4 +1,4 @@
-//! What undo values saved is put back, that of the last one first.
+//! For a withdrawal: what undo values saved is put back, that of the last one first.
 ghost use Rattle.std.specs.Prelude.{◌≡◌, ◌⊎◌, reverse, IfOk, IfErr, OnOk, OnErr, Some, None};
 ghost use Rattle.gv_space.specs.State.{IsUnchanged};
 ghost use Rattle.gv_space.specs.Undo.{AreAmongKept};
@@ -25,10 +25,10 @@ pub fn restore_all(alloc: Global, space: &mut Space, saved: &[OpUndo]) -> Result
         Ok(fresh) => fresh,
         Err(_) => return Err(Fault::OutOfMemory),
     };
-    let mut left = saved.len();
-    while left > 0 {
-        left -= 1;
-        let undo = &saved[left];
+    let mut remaining = saved.len();
+    while remaining > 0 {
+        remaining -= 1;
+        let undo = &saved[remaining];
         match space.restore(alloc, undo.range(), undo) {
             Ok(undo) => fresh.push_reserved(undo),
             Err(fault) => {

@@ -1,10 +1,10 @@
-//! Room for one thing more.
+//! How vectors grow: a full one doubles.
 ghost use Rattle.std.specs.Prelude.{◌≡◌, ◌<◌, ◌≤◌, ◌*◌, max, vec_len, vec_capacity, OnOk, OnErr};
 
 use std::alloc::AllocError;
 
 /// So many slots the first growth makes.
-const FIRST_PLACES: usize = 4;
+const FIRST_SLOTS: usize = 4;
 
 /// Makes room for one thing more where there is none: twice the slots, and four at first.
 pub fn grow<T>(things: &mut Vec<T>) -> Result<(), AllocError>
@@ -18,5 +18,5 @@ pub fn grow<T>(things: &mut Vec<T>) -> Result<(), AllocError>
     if len < things.capacity() {
         return Ok(());
     }
-    things.reserve_exact(len.saturating_mul(2).max(FIRST_PLACES) - len)
+    things.reserve_exact(len.saturating_mul(2).max(FIRST_SLOTS) - len)
 }

@@ -64,10 +64,10 @@ pub fn release_items(space: &mut Space, items: &mut [Item])
         → AreKept space.old (kept_by (reverse items.old) ++ others) → AreKept space.new others }
     ensures spent { All IsSpent items.new }
 {
-    let mut left = items.len();
-    while left > 0 {
-        left -= 1;
-        let item = &mut items[left];
+    let mut remaining = items.len();
+    while remaining > 0 {
+        remaining -= 1;
+        let item = &mut items[remaining];
         let alloc = *item.undos.allocator();
         let Item { kind: _, undos } = std::mem::replace(item, blank(alloc));
         release_all(space, undos);

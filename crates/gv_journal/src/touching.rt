@@ -1,4 +1,4 @@
-//! Which items touch.
+//! Finds the first later item that touches operations: both cover some page.
 ghost use Rattle.std.specs.Prelude.{◌≡◌, ℕ, ◌⊎◌, ◌+◌, ◌<◌, ◌^◌, Bool, ◌≤◌, false, ◌&&◌, ◌-◌, take, drop, not, is_some, length, IsTrue, IfSome};
 ghost use Rattle.std.specs.List.{list_any};
 ghost use Rattle.gv_types.specs.Page.{IsPage, PAGES};
@@ -9,7 +9,7 @@ ghost use Rattle.gv_journal.specs.Columns.{AreInSpace};
 ghost use Rattle.gv_journal.specs.Notes.{TellGone};
 ghost use Rattle.gv_journal.specs.Reach.{IsReachOf, AllApart, regions_meet};
 ghost use Rattle.gv_journal.specs.Restoring.{pages_named};
-ghost use Rattle.gv_journal.specs.Saying.{first_taken, last_covering};
+ghost use Rattle.gv_journal.specs.Covering.{first_taken, last_covering};
 ghost use Rattle.gv_journal.specs.Withdrawing.{touch, touched_from};
 
 use crate::item::{Item, ItemKind};

@@ -1,4 +1,4 @@
-//! Undo values spent from the last to the first.
+//! Reverts or releases a list of undo values, the last one first.
 ghost use Rattle.std.specs.Prelude.{◌≡◌, ◌++◌, List, reverse};
 ghost use Rattle.gv_types.specs.declared.mapping.Mapping.{Mapping};
 ghost use Rattle.gv_space.specs.State.{AreKept};

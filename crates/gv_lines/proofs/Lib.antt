@@ -1,8 +1,8 @@
 pub mod PartsLemmas
 mod Ascii
 mod Digits
-mod Names
+mod NameText
 mod HexDigits
-mod Cuts
-mod Lists
-mod Queues
+mod FirstSeparator
+mod ListParsing
+mod AtMostOneQueue

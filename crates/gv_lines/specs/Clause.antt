@@ -1,6 +1,6 @@
 -- The clauses of bind lines.
 use Rattle.std.specs.Prelude.{ℕ, nat_le, length, List, [], ◌∷◌, Option, Some, None, if◌then◌else◌, codes, bytes_eq}
-use Rattle.gv_lines.specs.Chain.{◌>>=◌, all_read}
+use Rattle.gv_lines.specs.OptionSteps.{◌>>=◌, all_read}
 use Rattle.gv_lines.specs.Words.{clauses, first_name, first_number, first_queue, ended}
 use Rattle.gv_lines.specs.Operation.{range_operation, unmapall_operation}
 use Rattle.gv_lines.specs.declared.operation.Operation.{Operation}

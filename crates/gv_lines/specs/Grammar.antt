@@ -2,7 +2,7 @@
 use Rattle.std.specs.Prelude.{ℕ, List, [], ◌∷◌, Option, Some, None, ◌==◌, if◌then◌else◌, codes, bytes_eq}
 use Rattle.std.specs.List.{list_all}
 use Rattle.std.specs.Char.{is_ascii}
-use Rattle.gv_lines.specs.Chain.{◌>>=◌}
+use Rattle.gv_lines.specs.OptionSteps.{◌>>=◌}
 use Rattle.gv_lines.specs.Words.{words, clauses, first_name, first_number, queue_of, ended}
 use Rattle.gv_lines.specs.Operation.{planned_operation}
 use Rattle.gv_lines.specs.Clause.{point_of, bind_clauses, clauses_read}

@@ -1,6 +1,6 @@
 -- The accesses of a job.
 use Rattle.std.specs.Prelude.{ℕ, List, [], ◌∷◌, Option, None, if◌then◌else◌, codes, bytes_eq}
-use Rattle.gv_lines.specs.Chain.{◌>>=◌, all_read}
+use Rattle.gv_lines.specs.OptionSteps.{◌>>=◌, all_read}
 use Rattle.gv_lines.specs.Words.{first_number, ended}
 use Rattle.gv_lines.specs.declared.job.Access.{Access}
 use Rattle.gv_lines.specs.declared.job.Access.TheVariants.{Read, Write}

@@ -1,6 +1,6 @@
-pub mod Chain
+pub mod OptionSteps
 pub mod Words
-pub mod Cutting
+pub mod ClauseWords
 pub mod Operation
 pub mod Clause
 pub mod Job

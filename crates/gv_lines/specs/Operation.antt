@@ -1,6 +1,6 @@
 -- The operations: changes of what an address space maps.
 use Rattle.std.specs.Prelude.{ℕ, Bool, true, false, List, [], ◌∷◌, Option, Some, None, if◌then◌else◌, codes, bytes_eq}
-use Rattle.gv_lines.specs.Chain.{◌>>=◌}
+use Rattle.gv_lines.specs.OptionSteps.{◌>>=◌}
 use Rattle.gv_lines.specs.Words.{first_name, first_number, ended}
 use Rattle.gv_lines.specs.declared.operation.Operation.{Operation}
 use Rattle.gv_lines.specs.declared.operation.Operation.TheVariants.{Map, Zero, Unmap, UnmapAll}

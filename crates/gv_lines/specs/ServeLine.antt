@@ -1,6 +1,6 @@
 -- The lines of a dialogue.
 use Rattle.std.specs.Prelude.{ℕ, List, [], ◌∷◌, Option, Some, None, if◌then◌else◌, codes, bytes_eq}
-use Rattle.gv_lines.specs.Chain.{◌>>=◌}
+use Rattle.gv_lines.specs.OptionSteps.{◌>>=◌}
 use Rattle.gv_lines.specs.Words.{words, first_number, queue_of, ended}
 use Rattle.gv_lines.specs.Clause.{bind_clauses, clauses_read}
 use Rattle.gv_lines.specs.Grammar.{parsed}

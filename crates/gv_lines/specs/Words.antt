@@ -2,7 +2,7 @@
 use Rattle.std.specs.Prelude.{ℕ, ◌+◌, ◌-◌, ◌*◌, ◌^◌, Bool, false, not, ◌&&◌, ◌||◌, ◌==◌, nat_lt, nat_le, if◌then◌else◌, List, [], ◌∷◌, length, drop, Option, Some, None, codes, bytes_eq}
 use Rattle.std.specs.List.{slice_split, list_all, starts_with}
 use Rattle.std.specs.Char.{is_ascii_lowercase, is_ascii_digit}
-use Rattle.gv_lines.specs.Chain.{◌>>=◌}
+use Rattle.gv_lines.specs.OptionSteps.{◌>>=◌}
 use Rattle.gv_lines.specs.Hex.{number_limit, hex_digits}
 
 -- the parts of a text between the places of a byte

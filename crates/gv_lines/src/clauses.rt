@@ -3,7 +3,7 @@ ghost use Rattle.std.specs.Prelude.{◌≡◌, ◌∷◌, [], MatchOption};
 ghost use Rattle.gv_lines.specs.Clause.{clause_of};
 
 use super::clause::Clause;
-use super::cutting::Clauses;
+use super::clause_words::ClauseWords;
 use super::words::Words;
 use std::marker::Model;
 
@@ -15,15 +15,15 @@ fn clause_said(words: Words<'_>) -> Option<Clause>
     Clause::from_words(words)
 }
 
-/// Clauses that are left, in the order of their line.
+/// The clauses that are left, in the order of their line.
 #[derive(Drop, Debug)]
 pub struct ClauseList<'a> {
-    parts: Clauses<'a>,
+    parts: ClauseWords<'a>,
 }
 
 impl<'a> Model for ClauseList<'a> {
     ghost use Rattle.std.specs.Prelude.{List, [], IsSome, unwrap_or};
-    ghost use Rattle.gv_lines.specs.Chain.{all_read};
+    ghost use Rattle.gv_lines.specs.OptionSteps.{all_read};
     ghost use Rattle.gv_lines.specs.Clause.{clause_of};
     ghost use Rattle.gv_lines.specs.declared.clause.Clause.{Clause};
 
@@ -42,12 +42,12 @@ impl<'a> ClauseList<'a> {
         ensures { result ≡ [] }
     {
         ClauseList {
-            parts: Clauses::none(),
+            parts: ClauseWords::none(),
         }
     }
 
     /// The clauses that some words say, where each is of the language and at most one names a queue.
-    pub fn from_parts(parts: Clauses<'a>) -> Option<ClauseList<'a>>
+    pub fn from_parts(parts: ClauseWords<'a>) -> Option<ClauseList<'a>>
         ensures { result ≡ clauses_read parts.entry }
     {
         let mut left = parts.again();

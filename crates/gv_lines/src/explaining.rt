@@ -4,24 +4,24 @@ ghost use Rattle.gv_lines.specs.Grammar.{parsed};
 ghost use Rattle.gv_lines.specs.ServeLine.{serve_parsed};
 
 mod bytes;
+mod cursor;
 mod likeness;
 mod mention;
 mod pattern;
-mod walk;
 mod word;
 
-use crate::cutting::Clauses;
+use crate::clause_words::ClauseWords;
 use crate::parse::parse_line;
 use crate::reason::{Beginning, Form, Reason, Slip};
 use crate::serve_line::parse_serve_line;
 use crate::words::Words;
 use bytes::bytes_slip;
+use cursor::WordCursor;
+pub use cursor::{Found, word_at};
 use likeness::{ACCESSES, CLAUSES, LINES, OPERATIONS, SERVE_LINES, meant};
 pub use mention::{Mention, Mentions, queue_in};
 use pattern::{Item, Pattern, Shape};
 use std::alloc::Global;
-use walk::Walk;
-pub use walk::{Found, word_at};
 use word::word_slip;
 
 /// Which lines there are.
@@ -58,8 +58,8 @@ fn slip_in(alloc: Global, language: Language, text: &[u8]) -> Slip<'_> {
     if let Some(slip) = bytes_slip(text) {
         return slip;
     }
-    let mut walk = Walk::new(text);
-    if let Some(slip) = line_slip(alloc, language, &mut walk) {
+    let mut cursor = WordCursor::new(text);
+    if let Some(slip) = line_slip(alloc, language, &mut cursor) {
         return slip;
     }
     no_such_line(text)
@@ -97,27 +97,31 @@ fn shape_of(language: Language, word: &[u8]) -> Option<Shape> {
 }
 
 /// Where the words of a line are first not as the line has them.
-fn line_slip<'a>(alloc: Global, language: Language, walk: &mut Walk<'a>) -> Option<Slip<'a>> {
-    let first = walk.take()?;
+fn line_slip<'a>(
+    alloc: Global,
+    language: Language,
+    cursor: &mut WordCursor<'a>,
+) -> Option<Slip<'a>> {
+    let first = cursor.take()?;
     let Some(shape) = shape_of(language, first.word) else {
         let slip = unknown_line(alloc, language, first.word);
         return Some(beginning(first, slip));
     };
     match shape {
-        Shape::Words { pattern } => pattern_slip(pattern, walk),
-        Shape::Clauses => items_slip(alloc, Item::Clause, walk),
+        Shape::Words { pattern } => pattern_slip(pattern, cursor),
+        Shape::Clauses => items_slip(alloc, Item::Clause, cursor),
         Shape::Accesses => {
-            first_missing(walk, b"ACCESS", "job ACCESS ; ACCESS ..").or(items_slip(
+            first_missing(cursor, b"ACCESS", "job ACCESS ; ACCESS ..").or(items_slip(
                 alloc,
                 Item::Access,
-                walk,
+                cursor,
             ))
         }
         Shape::Operation => {
-            first_missing(walk, b"OPERATION", "plan OPERATION").or(item_slip(
+            first_missing(cursor, b"OPERATION", "plan OPERATION").or(item_slip(
                 alloc,
                 Item::Operation,
-                walk,
+                cursor,
             ))
         }
     }
@@ -136,32 +140,37 @@ fn unknown_line(alloc: Global, language: Language, word: &[u8]) -> Beginning {
 }
 
 /// Where no word is left, this part is missing.
-fn first_missing<'a>(walk: &Walk<'a>, part: &'static [u8], form: &'static str) -> Option<Slip<'a>> {
-    walk.words
+fn first_missing<'a>(
+    cursor: &WordCursor<'a>,
+    part: &'static [u8],
+    form: &'static str,
+) -> Option<Slip<'a>> {
+    cursor
+        .words
         .is_done()
-        .then_some(of_form(walk.column, Form::Missing { part, form }))
+        .then_some(of_form(cursor.column, Form::Missing { part, form }))
 }
 
 /// Where the words are first not as a form has them.
-fn pattern_slip<'a>(pattern: Pattern, walk: &mut Walk<'a>) -> Option<Slip<'a>> {
+fn pattern_slip<'a>(pattern: Pattern, cursor: &mut WordCursor<'a>) -> Option<Slip<'a>> {
     let form = pattern.text;
     let mut parts = Words::new(form.as_bytes());
     let _first = parts.take_word();
     while let Some(part) = parts.take_word() {
-        let Some(found) = walk.take() else {
-            return Some(of_form(walk.column, Form::Missing { part, form }));
+        let Some(found) = cursor.take() else {
+            return Some(of_form(cursor.column, Form::Missing { part, form }));
         };
         if let Some(slip) = word_slip(part, found) {
             return Some(slip);
         }
     }
-    end_slip(pattern, walk)
+    end_slip(pattern, cursor)
 }
 
 /// Why what follows a form is bad.
-fn end_slip<'a>(pattern: Pattern, walk: &mut Walk<'a>) -> Option<Slip<'a>> {
+fn end_slip<'a>(pattern: Pattern, cursor: &mut WordCursor<'a>) -> Option<Slip<'a>> {
     let form = pattern.text;
-    let mut found = walk.take()?;
+    let mut found = cursor.take()?;
     if found.word == b";".as_slice() {
         return Some(of_form(found.column, Form::StraySeparator));
     }
@@ -170,22 +179,22 @@ fn end_slip<'a>(pattern: Pattern, walk: &mut Walk<'a>) -> Option<Slip<'a>> {
         if word != b"ro".as_slice() {
             return Some(of_form(found.column, Form::NotReadOnly { word }));
         }
-        found = walk.take()?;
+        found = cursor.take()?;
     }
     let word = found.word;
     Some(of_form(found.column, Form::TooMany { word, form }))
 }
 
 /// Where clauses or accesses are first not as they should be. There are none where no word is left.
-fn items_slip<'a>(alloc: Global, item: Item, walk: &mut Walk<'a>) -> Option<Slip<'a>> {
-    if walk.words.is_done() {
+fn items_slip<'a>(alloc: Global, item: Item, cursor: &mut WordCursor<'a>) -> Option<Slip<'a>> {
+    if cursor.words.is_done() {
         return None;
     }
-    let mut parts = Clauses::new(walk.words.again());
-    let mut column = walk.column;
+    let mut parts = ClauseWords::new(cursor.words.again());
+    let mut column = cursor.column;
     let mut has_queue = false;
     while let Some(words) = parts.take_clause() {
-        let mut clause = Walk { words, column };
+        let mut clause = WordCursor { words, column };
         let names_queue = matches!(item, Item::Clause) && clause.begins_with(b"queue");
         if names_queue && has_queue {
             return Some(of_form(column, Form::SecondQueue));
@@ -200,12 +209,12 @@ fn items_slip<'a>(alloc: Global, item: Item, walk: &mut Walk<'a>) -> Option<Slip
 }
 
 /// Where a clause, an operation or an access is first not as it should be.
-fn item_slip<'a>(alloc: Global, item: Item, walk: &mut Walk<'a>) -> Option<Slip<'a>> {
-    let Some(first) = walk.take() else {
-        return Some(of_form(walk.column, Form::NoClause));
+fn item_slip<'a>(alloc: Global, item: Item, cursor: &mut WordCursor<'a>) -> Option<Slip<'a>> {
+    let Some(first) = cursor.take() else {
+        return Some(of_form(cursor.column, Form::NoClause));
     };
     match item.pattern(first.word) {
-        Some(pattern) => pattern_slip(pattern, walk),
+        Some(pattern) => pattern_slip(pattern, cursor),
         None => Some(beginning(first, unknown_item(alloc, item, first.word))),
     }
 }

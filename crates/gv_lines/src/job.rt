@@ -1,7 +1,7 @@
 //! The accesses of jobs.
 ghost use Rattle.std.specs.Prelude.{◌≡◌, ◌∷◌, [], MatchOption};
 
-use super::cutting::Clauses;
+use super::clause_words::ClauseWords;
 use super::words::{Words, is_word};
 use std::marker::Model;
 
@@ -49,7 +49,7 @@ impl Access {
 /// Accesses of a job that are left, in the order of their line.
 #[derive(Drop, Debug)]
 pub struct AccessList<'a> {
-    parts: Clauses<'a>,
+    parts: ClauseWords<'a>,
 }
 
 impl<'a> Model for AccessList<'a> {
@@ -68,7 +68,7 @@ impl<'a> AccessList<'a> {
     ghost use Rattle.gv_lines.specs.Job.{accesses_read};
 
     /// The accesses that some words say, where each is of the language.
-    pub fn from_parts(parts: Clauses<'a>) -> Option<AccessList<'a>>
+    pub fn from_parts(parts: ClauseWords<'a>) -> Option<AccessList<'a>>
         ensures { result ≡ accesses_read parts.entry }
     {
         let mut left = parts.again();

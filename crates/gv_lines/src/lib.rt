@@ -3,8 +3,8 @@
 #![tactic(auto)]
 
 mod clause;
+mod clause_words;
 mod clauses;
-mod cutting;
 mod digit;
 mod explaining;
 mod hex;
@@ -34,7 +34,8 @@ pub use operation::Operation;
 pub use parse::parse_line;
 pub use point::NamedPoint;
 pub use reason::{
-    Beginning, Form, LINE_LIMIT, Layout, NameSlip, NumberSlip, Place, Reason, Set, Setting, Slip,
+    Beginning, Form, LINE_LIMIT, Layout, Misplacement, NameSet, NameSlip, NumberSlip, Reason,
+    Setting, Slip,
 };
 pub use serve_line::{ServeLine, parse_serve_line};
 pub use words::split_once;

@@ -1,4 +1,4 @@
-//! Lines read.
+//! Parses a line of a script.
 ghost use Rattle.std.specs.Prelude.{◌≡◌};
 ghost use Rattle.std.specs.List.{list_all};
 ghost use Rattle.std.specs.Char.{is_ascii};
@@ -8,8 +8,8 @@ ghost use Rattle.gv_lines.specs.Grammar.{timeline_line, raise_line, value_line, 
 ghost use Rattle.gv_lines.specs.Grammar.{at_line, withdraw_line, settle_line, told_line, job_line, end_line};
 ghost use Rattle.gv_lines.specs.Words.{ended};
 
+use super::clause_words::ClauseWords;
 use super::clauses::ClauseList;
-use super::cutting::Clauses;
 use super::job::AccessList;
 use super::keyword::Keyword;
 use super::line::Line;
@@ -157,7 +157,7 @@ fn bind_line(words: Words<'_>) -> Option<Line<'_>>
     let clauses = if words.is_done() {
         ClauseList::none()
     } else {
-        ClauseList::from_parts(Clauses::new(words))?
+        ClauseList::from_parts(ClauseWords::new(words))?
     };
     Some(Line::Bind { clauses })
 }
@@ -207,7 +207,7 @@ fn told_line(mut words: Words<'_>) -> Option<Line<'_>>
 fn job_line(words: Words<'_>) -> Option<Line<'_>>
     ensures { result ≡ job_line words.entry }
 {
-    let accesses = AccessList::from_parts(Clauses::new(words))?;
+    let accesses = AccessList::from_parts(ClauseWords::new(words))?;
     Some(Line::Job { accesses })
 }
 

@@ -2,18 +2,18 @@
 mod beginning;
 mod form;
 mod layout;
+mod misplacement;
 mod name_slip;
 mod number_slip;
-mod place;
 mod setting;
 mod shown;
 
 pub use beginning::Beginning;
 pub use form::Form;
 pub use layout::{LINE_LIMIT, Layout};
+pub use misplacement::{Misplacement, NameSet};
 pub use name_slip::NameSlip;
 pub use number_slip::NumberSlip;
-pub use place::{Place, Set};
 pub use setting::Setting;
 use shown::write_slip;
 use std::fmt;
@@ -40,7 +40,7 @@ pub enum Reason<'a> {
     /// A word is no number, or none that is allowed there.
     Number { word: &'a [u8], slip: NumberSlip },
     /// The line is of the language, and not at its place.
-    Place(Place<'a>),
+    Misplacement(Misplacement<'a>),
     /// The line sets what cannot be set.
     Setting { word: &'a [u8], setting: Setting },
 }
@@ -78,7 +78,7 @@ impl Reason<'_> {
                     slip: Beginning::NoSuchLine { .. } | Beginning::ServeAlone,
                     ..
                 }
-                | Reason::Place(_)
+                | Reason::Misplacement(_)
         )
     }
 }
@@ -101,7 +101,7 @@ impl fmt::Display for Reason<'_> {
             Reason::Form(form) => write!(f, "{form}"),
             Reason::Name { word, slip } => write_slip(f, word, slip),
             Reason::Number { word, slip } => write_slip(f, word, slip),
-            Reason::Place(place) => write!(f, "{place}"),
+            Reason::Misplacement(misplacement) => write!(f, "{misplacement}"),
             Reason::Setting { word, setting } => write_slip(f, word, setting),
         }
     }

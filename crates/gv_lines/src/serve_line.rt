@@ -3,8 +3,8 @@ ghost use Rattle.std.specs.Prelude.{◌≡◌};
 ghost use Rattle.gv_lines.specs.ServeLine.{serve_parsed, added, added_line, put_line, turn_line, give_up_line};
 ghost use Rattle.gv_lines.specs.ServeLine.{forget_line, trim_line, show_line, past_line};
 
+use super::clause_words::ClauseWords;
 use super::clauses::ClauseList;
-use super::cutting::Clauses;
 use super::line::Line;
 use super::parse::parse_line;
 use super::words::{Words, is_word, queue_of};
@@ -80,7 +80,7 @@ fn put_line(words: Words<'_>) -> Option<ServeLine<'_>>
     let clauses = if words.is_done() {
         ClauseList::none()
     } else {
-        ClauseList::from_parts(Clauses::new(words))?
+        ClauseList::from_parts(ClauseWords::new(words))?
     };
     Some(ServeLine::Put { clauses })
 }

@@ -83,12 +83,12 @@ impl AmdgpuEvent {
 /// An event and its object, from the event's name on, if it is one of those that make, map or unmap.
 pub fn parse_amdgpu(text: &[u8]) -> Option<(u64, AmdgpuEvent)> {
     let mut cursor = Cursor::new(text.trim_ascii_end());
-    cursor.text(b"amdgpu_")?;
-    let is_map = cursor.passes(b"vm_bo_map:");
-    if is_map || cursor.passes(b"vm_bo_unmap:") {
+    cursor.expect_text(b"amdgpu_")?;
+    let is_map = cursor.take_if(b"vm_bo_map:");
+    if is_map || cursor.take_if(b"vm_bo_unmap:") {
         return parse_mapping(&mut cursor, is_map);
     }
-    cursor.text(b"bo_create:")?;
+    cursor.expect_text(b"bo_create:")?;
     cursor.spaces();
     let [object, pages] = cursor.numbers::<2>(&OBJECT)?;
     Some((object, AmdgpuEvent::Made { pages }))

@@ -1,4 +1,4 @@
-//! A line read from its front.
+//! Parses a line of a log from left to right.
 
 /// A number of a line has at most so many hexadecimal digits.
 const HEX_DIGITS: usize = 16;
@@ -63,7 +63,7 @@ impl<'a> Cursor<'a> {
     }
 
     /// Whether the text comes next, which is passed then.
-    pub fn passes(&mut self, text: &[u8]) -> bool {
+    pub fn take_if(&mut self, text: &[u8]) -> bool {
         match self.rest.strip_prefix(text) {
             Some(rest) => {
                 self.rest = rest;
@@ -74,8 +74,8 @@ impl<'a> Cursor<'a> {
     }
 
     /// The text, which has to come next.
-    pub fn text(&mut self, text: &[u8]) -> Option<()> {
-        self.passes(text).then_some(())
+    pub fn expect_text(&mut self, text: &[u8]) -> Option<()> {
+        self.take_if(text).then_some(())
     }
 
     /// Passes the spaces that come next.
@@ -87,7 +87,7 @@ impl<'a> Cursor<'a> {
     pub fn numbers<const N: usize>(&mut self, fields: &[Field]) -> Option<[u64; N]> {
         let mut numbers = [0; N];
         for (number, field) in numbers.iter_mut().zip(fields) {
-            self.text(field.before.as_bytes())?;
+            self.expect_text(field.before.as_bytes())?;
             *number = self.number(field.kind)?;
         }
         Some(numbers)
@@ -105,7 +105,7 @@ impl<'a> Cursor<'a> {
 
     fn pointer(&mut self) -> Option<u64> {
         self.spaces();
-        if self.passes(b"(nil)") || self.passes(b"(null)") {
+        if self.take_if(b"(nil)") || self.take_if(b"(null)") {
             return Some(0);
         }
         self.any_hex()
@@ -113,7 +113,7 @@ impl<'a> Cursor<'a> {
 
     fn cell(&mut self) -> Option<u64> {
         self.spaces();
-        self.text(b"0x")?;
+        self.expect_text(b"0x")?;
         let number = self.hex();
         self.spaces();
         number
@@ -121,7 +121,7 @@ impl<'a> Cursor<'a> {
 
     /// A number of hexadecimal digits, with or without `0x`.
     fn any_hex(&mut self) -> Option<u64> {
-        let _prefix = self.passes(b"0x");
+        let _prefix = self.take_if(b"0x");
         self.hex()
     }
 

@@ -15,7 +15,7 @@ pub fn hex_fields<const N: usize>(fields: &[u8], names: &[&str]) -> Option<[u64;
 fn field<'a>(fields: &'a [u8], name: &[u8]) -> Option<&'a [u8]> {
     for word in fields.split(|byte| *byte == b',' || byte.is_ascii_whitespace()) {
         let mut cursor = Cursor::new(word);
-        if cursor.passes(name) && cursor.passes(b"=") {
+        if cursor.take_if(name) && cursor.take_if(b"=") {
             return Some(cursor.rest());
         }
     }

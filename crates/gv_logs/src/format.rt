@@ -4,7 +4,7 @@ use crate::amdgpu_line::AmdgpuLine;
 use crate::cursor::{decimal_of, hex_of};
 use crate::driver::Driver;
 use crate::gpuvas_line::GpuvasLine;
-use crate::radv_line::{RadvLine, cut};
+use crate::radv_line::{RadvLine, low_48_bits};
 use crate::vma_line::VmaLine;
 
 /// Who wrote the log.
@@ -67,7 +67,7 @@ impl Format {
     /// An address as the format writes it: RADV cuts it to 48 bits.
     pub fn address(self, addr: u64) -> u64 {
         match self {
-            Format::Radv => cut(addr),
+            Format::Radv => low_48_bits(addr),
             Format::Amdgpu | Format::Xe | Format::I915 | Format::Gpuvas => addr,
         }
     }

@@ -2,7 +2,7 @@
 
 use crate::cursor::{Cursor, Field, Kind};
 
-/// Addresses are cut to 48 bits.
+/// Addresses have 48 bits.
 const ADDRESS_END: u64 = 1 << 48;
 
 /// What each line begins with: its time, and its first byte and the one past its end.
@@ -69,8 +69,8 @@ impl RadvLine {
         let mut cursor = Cursor::new(text.trim_ascii_end());
         let [time, start, end] = cursor.numbers::<3>(&FRONT)?;
         let event = parse_event(&mut cursor)?;
-        let start = cut(start);
-        let end = cut_end(start, end);
+        let start = low_48_bits(start);
+        let end = end_in_48_bits(start, end);
         (start <= end && cursor.is_done()).then_some(RadvLine {
             time,
             start,
@@ -81,22 +81,22 @@ impl RadvLine {
 }
 
 /// An address as the log writes it.
-pub fn cut(address: u64) -> u64 {
+pub fn low_48_bits(address: u64) -> u64 {
     address % ADDRESS_END
 }
 
 /// The end of a range, which is 0 there where it is the end of all addresses.
-fn cut_end(start: u64, end: u64) -> u64 {
-    match cut(end) {
+fn end_in_48_bits(start: u64, end: u64) -> u64 {
+    match low_48_bits(end) {
         0 if start > 0 => ADDRESS_END,
         end => end,
     }
 }
 
 fn parse_event(cursor: &mut Cursor<'_>) -> Option<RadvEvent> {
-    if cursor.passes(BOUND) {
+    if cursor.take_if(BOUND) {
         let [to] = cursor.numbers::<1>(&TARGET)?;
-        return Some(match cut(to) {
+        return Some(match low_48_bits(to) {
             0 => RadvEvent::SparseUnbound,
             to => RadvEvent::SparseBound { to },
         });

@@ -1,4 +1,4 @@
-//! Ends that don't agree, and ends that do.
+//! The ends of a queue: `finish` names those that don't agree.
 ghost use Rattle.std.specs.Prelude.{◌≡◌, [], IfOk};
 ghost use Rattle.gv_sync.specs.Seats.{IsSeatOf};
 

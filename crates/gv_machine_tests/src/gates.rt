@@ -170,9 +170,9 @@ pub struct Roll {
     mistaken: AtomicBool,
 }
 
-/// The place of a request, by its queue and its number.
-fn place_of(queue: u64, number: u64) -> Option<usize>
-    ensures { IfSome result (λ place. place < 4) }
+/// The position of a request, by its queue and its number.
+fn position_of(queue: u64, number: u64) -> Option<usize>
+    ensures { IfSome result (λ position. position < 4) }
 {
     match (queue, number) {
         (0, 0) => Some(0),
@@ -216,15 +216,15 @@ impl Roll {
 
 impl Gate for Roll {
     fn turn(&self, queue: u64, number: u64, lacking: &Lacking, turns: u64) -> Turn {
-        let Some(place) = place_of(queue, number) else {
+        let Some(position) = position_of(queue, number) else {
             self.mistaken.store(true, SeqCst);
             return Turn::GiveUp;
         };
-        let before = self.turns[place].fetch_add(1, SeqCst);
-        if turns != before.wrapping_add(1) || lacking.point() != AWAITED[place] {
+        let before = self.turns[position].fetch_add(1, SeqCst);
+        if turns != before.wrapping_add(1) || lacking.point() != AWAITED[position] {
             self.mistaken.store(true, SeqCst);
         }
-        if turns < PATIENCE[place] {
+        if turns < PATIENCE[position] {
             Turn::GoOn
         } else {
             Turn::GiveUp
@@ -232,9 +232,9 @@ impl Gate for Roll {
     }
 
     fn before_lock(&self, queue: u64, number: u64) {
-        match place_of(queue, number) {
-            Some(place) => {
-                self.locks[place].fetch_add(1, SeqCst);
+        match position_of(queue, number) {
+            Some(position) => {
+                self.locks[position].fetch_add(1, SeqCst);
             }
             None => self.mistaken.store(true, SeqCst),
         }

@@ -1,7 +1,8 @@
 //! Drivers that go past the limits, and one that takes entries back while queues run.
 use crate::gates::TURNS;
 use crate::row::{
-    FIRST, FULL, Kept, NOTHING, NOUGHT, ONE, Put, Sent, Setting, Step, THREE, TWO, WAITS, Wanted,
+    FIRST, FULL, NOTHING, NOUGHT, ONE, Put, Sent, Setting, Step, THREE, TWO, WAITS, Wanted,
+    WantedEntry,
 };
 use crate::rows::{Row, play};
 use gv_types::{Fault, PAGE_BYTES};
@@ -38,7 +39,7 @@ const FILLED: Row = Row {
             ],
             &[],
         ],
-        entries: &[Kept(0, 0, WAITS), Kept(0, 1, ONE)],
+        entries: &[WantedEntry(0, 0, WAITS), WantedEntry(0, 1, ONE)],
         mappings: 2,
         zeros: &[0, PAGE_BYTES],
         nowhere: &[2 * PAGE_BYTES],
@@ -78,7 +79,11 @@ const FILLED_AGAIN: Row = Row {
             ],
             &[],
         ],
-        entries: &[Kept(0, 0, WAITS), Kept(0, 1, ONE), Kept(0, 2, THREE)],
+        entries: &[
+            WantedEntry(0, 0, WAITS),
+            WantedEntry(0, 1, ONE),
+            WantedEntry(0, 2, THREE),
+        ],
         mappings: 3,
         zeros: &[0, PAGE_BYTES, 3 * PAGE_BYTES],
         nowhere: &[2 * PAGE_BYTES],
@@ -116,7 +121,7 @@ const SPENT: Row = Row {
             ],
             &[],
         ],
-        entries: &[Kept(0, 0, NOUGHT)],
+        entries: &[WantedEntry(0, 0, NOUGHT)],
         mappings: 1,
         zeros: &[0],
         nowhere: &[PAGE_BYTES, 2 * PAGE_BYTES],
@@ -220,7 +225,7 @@ const FORGOTTEN: Row = Row {
     },
     wanted: Wanted {
         told: [&[Outcome::Accepted { entry: 0 }], &[]],
-        entries: &[Kept(0, 2, TWO)],
+        entries: &[WantedEntry(0, 2, TWO)],
         mappings: 1,
         zeros: &[2 * PAGE_BYTES],
         nowhere: &[0, 4 * PAGE_BYTES],

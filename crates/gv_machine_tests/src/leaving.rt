@@ -1,6 +1,6 @@
 //! What is left of a queue whose worker ends before its driver is done.
 use crate::gates::Patience;
-use crate::row::{FULL, Kept, NOUGHT, ONE, Put, Setting, Step, THREE, TWO, Wanted};
+use crate::row::{FULL, NOUGHT, ONE, Put, Setting, Step, THREE, TWO, Wanted, WantedEntry};
 use crate::running::{TIMES, run};
 use gv_types::PAGE_BYTES;
 use gv_vm::Outcome;
@@ -28,7 +28,7 @@ const CUT_SHORT: Setting = Setting {
 
 const FIRST_ALONE: Wanted = Wanted {
     told: [&[Outcome::Accepted { entry: 0 }], &[]],
-    entries: &[Kept(0, 0, NOUGHT)],
+    entries: &[WantedEntry(0, 0, NOUGHT)],
     mappings: 1,
     zeros: &[0],
     nowhere: &[PAGE_BYTES, 2 * PAGE_BYTES, 3 * PAGE_BYTES],

@@ -1,6 +1,5 @@
 //! Tests of the machine and of the world: rows of calls, and random events against a model.
 mod agreement;
-mod asking;
 mod calls;
 mod chance;
 mod counts;
@@ -9,6 +8,7 @@ mod events;
 mod forgetting;
 mod jobs;
 mod limits;
+mod numbers;
 mod past;
 mod play;
 mod refusals;
@@ -18,4 +18,4 @@ mod run;
 mod stage;
 mod tally;
 mod trimming;
-mod turns;
+mod vm_text;

@@ -17,7 +17,7 @@ use std::{mem, thread};
 
 /// Steps in order, how many requests were put on each queue, and the first step that was answered otherwise than wanted.
 #[derive(Drop)]
-pub struct Plan<'a> {
+pub struct ScriptedDriver<'a> {
     alloc: Global,
     asked: &'a AtomicBool,
     steps: &'static [Step],
@@ -25,10 +25,10 @@ pub struct Plan<'a> {
     other: Option<usize>,
 }
 
-impl<'a> Plan<'a> {
+impl<'a> ScriptedDriver<'a> {
     /// The gate tells by the flag that it was asked.
-    pub fn new(alloc: Global, asked: &'a AtomicBool, steps: &'static [Step]) -> Plan<'a> {
-        Plan {
+    pub fn new(alloc: Global, asked: &'a AtomicBool, steps: &'static [Step]) -> ScriptedDriver<'a> {
+        ScriptedDriver {
             alloc,
             asked,
             steps,
@@ -59,7 +59,7 @@ fn is_put_on(step: &Step, on: u64) -> bool {
     }
 }
 
-impl Driver for Plan<'_> {
+impl Driver for ScriptedDriver<'_> {
     ghost use Rattle.gv_queues.specs.Counts.{count_of_queue};
 
     ghost put_on = { λ d. count_of_queue d.counts };

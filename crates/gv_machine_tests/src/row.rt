@@ -1,4 +1,4 @@
-//! What is run, and what is wanted of it, as data.
+//! Runs of queues as data: the driver's steps, the setting, and what is wanted at the end.
 use gv_types::{
     Fault, Flags, MAX_BUFFERS, MAX_ITEMS, MAX_MAPPINGS, MAX_TOLD, Op, PAGE_BYTES, Point, Request,
 };
@@ -100,14 +100,14 @@ pub struct Setting {
 }
 
 /// An entry that stands for the request of this queue with this number there.
-pub struct Kept(pub u64, pub u64, pub Sent);
+pub struct WantedEntry(pub u64, pub u64, pub Sent);
 
 /// What is wanted of the address space and of the timelines at the end.
 pub struct Wanted {
     /// What queues 0 and 1 are told, but for what is forgotten.
     pub told: [&'static [Outcome]; 2],
     /// The entries, the oldest first.
-    pub entries: &'static [Kept],
+    pub entries: &'static [WantedEntry],
     /// How many mappings are in the list.
     pub mappings: usize,
     /// Addresses that lead to zeros, and some that lead nowhere.

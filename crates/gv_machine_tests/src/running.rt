@@ -1,6 +1,6 @@
 //! Queues run on a new address space, and what is compared at the end.
-use crate::plan::{Plan, is_wanted};
-use crate::row::{Kept, Sent, Setting, Wanted};
+use crate::plan::{ScriptedDriver, is_wanted};
+use crate::row::{Sent, Setting, Wanted, WantedEntry};
 use gv_journal::{Item, ItemKind};
 use gv_queues::{Driver, Gate, QueueEnd, Queues, QueuesFault};
 use gv_sync::Timelines;
@@ -23,7 +23,7 @@ const MOST_PLACES: usize = 65_536;
 pub struct Ran<'a> {
     vm: Vm,
     numbers: [u64; 2],
-    plan: Plan<'a>,
+    plan: ScriptedDriver<'a>,
     ends: Result<Vec<QueueEnd>, QueuesFault>,
 }
 
@@ -42,7 +42,7 @@ pub fn run<'a, G: Gate + Sync, R: Threads + Wait + Sync>(
         return Err("queues".into());
     }
     let (timelines, mut seat) = Timelines::new(alloc, 2)?;
-    let mut plan = Plan::new(alloc, asked, setting.steps);
+    let mut plan = ScriptedDriver::new(alloc, asked, setting.steps);
     let vm = Vm::new(alloc, Bounds::whole(), limits)?;
     let queues = Queues {
         count,
@@ -165,7 +165,7 @@ fn leads(vm: &Vm, addresses: &[u64], zeros: bool) -> bool {
 }
 
 /// Whether the items stand for these requests, in order.
-fn has_entries(items: &[Item], wanted: &[Kept]) -> bool {
+fn has_entries(items: &[Item], wanted: &[WantedEntry]) -> bool {
     items.len() == wanted.len()
         && items
             .iter()
@@ -173,7 +173,7 @@ fn has_entries(items: &[Item], wanted: &[Kept]) -> bool {
             .all(|(item, kept)| is_kept(item, kept))
 }
 
-fn is_kept(item: &Item, kept: &Kept) -> bool {
+fn is_kept(item: &Item, kept: &WantedEntry) -> bool {
     match &item.kind {
         ItemKind::Bind {
             queue,

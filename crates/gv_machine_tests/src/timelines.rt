@@ -33,7 +33,7 @@ fn one_thread_on_timelines(rt: HostRuntime) -> Result<(), Fail> {
     laws::raises();
     laws::steps();
     laws::shares();
-    laws::turns();
+    laws::seat_raises();
     let (timelines, mut seat) = Timelines::new(rt.alloc(), 2)?;
     let numbers = [
         timelines.count(),

@@ -1,7 +1,7 @@
 //! Queues that wait for one another, or for what doesn't come.
 use crate::gates::TURNS;
 use crate::row::{
-    FIRST, FULL, Kept, NOTHING, NOUGHT, Put, SECOND, Sent, Setting, Step, WAITS, Wanted,
+    FIRST, FULL, NOTHING, NOUGHT, Put, SECOND, Sent, Setting, Step, WAITS, Wanted, WantedEntry,
 };
 use crate::rows::{Row, play};
 use gv_types::{PAGE_BYTES, Point};
@@ -32,7 +32,7 @@ const IN_TURN: Row = Row {
             &[Outcome::Accepted { entry: 1 }],
             &[Outcome::Accepted { entry: 0 }],
         ],
-        entries: &[Kept(1, 0, SIGNALS), Kept(0, 0, WAITS)],
+        entries: &[WantedEntry(1, 0, SIGNALS), WantedEntry(0, 0, WAITS)],
         mappings: 2,
         zeros: &[0, 4 * PAGE_BYTES],
         nowhere: &[],
@@ -135,7 +135,7 @@ const BEHIND: Row = Row {
             ],
             &[],
         ],
-        entries: &[Kept(0, 1, NOUGHT)],
+        entries: &[WantedEntry(0, 1, NOUGHT)],
         mappings: 1,
         zeros: &[0],
         nowhere: &[PAGE_BYTES],

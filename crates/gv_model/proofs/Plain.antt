@@ -1,4 +1,4 @@
--- What a plain list holds are mappings.
+-- `PlainList`: all values of its map are mappings.
 use Rattle.std.proofs.Common.{◌≡◌, ℕ, Option, Some, subst}
 use Rattle.std.specs.Prelude.{IfSome}
 use Rattle.std.specs.List.{All}

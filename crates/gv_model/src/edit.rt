@@ -1,4 +1,4 @@
-//! Operations that name their pages.
+//! `Edit`, an operation for tests that names its pages: no unmap of a whole buffer.
 ghost use Rattle.std.specs.Prelude.{◌≡◌, IsTrue};
 ghost use Rattle.gv_types.specs.Operation.{has_range};
 

@@ -21,12 +21,12 @@ pub enum Kind {
 
 /// An entry, with the list before it.
 #[derive(Drop)]
-pub struct Past {
+pub struct HistoryEntry {
     pub before: Vec<Mapping>,
     pub kind: Kind,
 }
 
-impl Past {
+impl HistoryEntry {
     /// The operations that it did; none for a withdrawal.
     pub fn done(&self) -> &[PageOp] {
         match &self.kind {
@@ -55,14 +55,18 @@ impl Past {
     }
 
     /// Whether one of its operations meets one of another's.
-    fn touches(&self, other: &Past) -> bool {
+    fn touches(&self, other: &HistoryEntry) -> bool {
         self.done().iter().any(|mine| other.done().iter().any(|its| share_a_page(mine, its)))
     }
 
-    /// The list before its operation with this place, and after those before it.
-    fn list_at(&self, alloc: Global, place: usize) -> Result<Vec<Mapping>, OutOfMemory> {
+    /// The list before its operation with this position, and after those before it.
+    fn list_at(&self, alloc: Global, position: usize) -> Result<Vec<Mapping>, OutOfMemory> {
         let ops = self.done();
-        edited_by_all(alloc, self.before.as_slice(), &ops[..place.min(ops.len())])
+        edited_by_all(
+            alloc,
+            self.before.as_slice(),
+            &ops[..position.min(ops.len())],
+        )
     }
 }
 
@@ -77,7 +81,7 @@ fn share_a_page(one: &PageOp, other: &PageOp) -> bool {
 #[derive(Drop)]
 pub struct History {
     pub first: u64,
-    pub entries: Vec<Past>,
+    pub entries: Vec<HistoryEntry>,
 }
 
 impl History {
@@ -92,9 +96,9 @@ impl History {
     }
 
     /// The entry with a number.
-    pub fn get(&self, number: u64) -> Option<&Past> {
-        let place = number.checked_sub(self.first)?;
-        self.entries.get(place as usize)
+    pub fn get(&self, number: u64) -> Option<&HistoryEntry> {
+        let position = number.checked_sub(self.first)?;
+        self.entries.get(position as usize)
     }
 
     /// Whether an entry is held that withdraws the one with a number.
@@ -176,13 +180,13 @@ impl History {
         &self,
         alloc: Global,
         list: &[Mapping],
-        entry: &Past,
-        place: usize,
+        entry: &HistoryEntry,
+        position: usize,
     ) -> Result<Vec<Mapping>, OutOfMemory> {
-        let Some(range) = entry.done().get(place).and_then(range_of) else {
+        let Some(range) = entry.done().get(position).and_then(range_of) else {
             return Ok(Vec::from_slice(alloc, list)?);
         };
-        let old = entry.list_at(alloc, place)?;
+        let old = entry.list_at(alloc, position)?;
         changed(alloc, list, range, old.as_slice())
     }
 
@@ -203,7 +207,7 @@ impl History {
     fn kept_by_withdrawal(
         &self,
         alloc: Global,
-        withdrawal: &Past,
+        withdrawal: &HistoryEntry,
         of: u64,
         id: &BufferId,
     ) -> Result<u64, OutOfMemory> {
@@ -212,17 +216,17 @@ impl History {
         };
         let mut list = withdrawal.before.clone()?;
         let mut kept = 0u64;
-        for place in (0..entry.done().len()).rev() {
-            if let Some(range) = entry.done().get(place).and_then(range_of) {
+        for position in (0..entry.done().len()).rev() {
+            if let Some(range) = entry.done().get(position).and_then(range_of) {
                 kept = kept.saturating_add(count_met(list.as_slice(), id, range));
             }
-            list = self.restored(alloc, list.as_slice(), entry, place)?;
+            list = self.restored(alloc, list.as_slice(), entry, position)?;
         }
         Ok(kept)
     }
 }
 
-fn kept_by_bind(alloc: Global, entry: &Past, id: &BufferId) -> Result<u64, OutOfMemory> {
+fn kept_by_bind(alloc: Global, entry: &HistoryEntry, id: &BufferId) -> Result<u64, OutOfMemory> {
     let mut list = entry.before.clone()?;
     let mut kept = 0u64;
     for op in entry.done() {

@@ -1,9 +1,9 @@
 //! A world by the definitions alone: whole lists, plain queues, and what each event answers.
-use crate::ground::{Ground, Turn};
 use crate::history::History;
-use crate::lines::{InHand, Line, Numbered, copy_of};
+use crate::queues::{InHand, ModelQueue, Numbered, copy_of};
 use crate::running::{Running, place_of};
-use crate::told::Told;
+use crate::space_model::{SpaceModel, TakenRequest};
+use crate::told::QueueOutcomes;
 use gv_types::{Bounds, BufferId, Fault, Limits, OutOfMemory, Point, Request};
 use gv_vm::{Access, Event, Outcome, QUEUES, Reply};
 use std::alloc::Global;
@@ -21,10 +21,10 @@ pub struct Setting {
 #[derive(Drop)]
 pub struct Model {
     pub setting: Setting,
-    pub ground: Ground,
+    pub space: SpaceModel,
     pub running: Running,
-    pub told: Vec<Told>,
-    pub lines: Vec<Line>,
+    pub told: Vec<QueueOutcomes>,
+    pub queues: Vec<ModelQueue>,
     pub numbers: Vec<u64>,
 }
 
@@ -40,17 +40,17 @@ impl Model {
     /// Nothing is held, nothing was put, and each timeline is at 0.
     pub fn new(alloc: Global, setting: Setting) -> Result<Model, OutOfMemory> {
         let mut told = Vec::new(alloc);
-        let mut lines = Vec::new(alloc);
+        let mut queues = Vec::new(alloc);
         for _ in 0..QUEUES {
-            told.push(Told::new(alloc))?;
+            told.push(QueueOutcomes::new(alloc))?;
         }
         for _ in 0..setting.queues {
-            lines.push(Line::new(alloc))?;
+            queues.push(ModelQueue::new(alloc))?;
         }
         let numbers = vec![in alloc; 0; setting.timelines as usize]?;
         Ok(Model {
             setting,
-            ground: Ground {
+            space: SpaceModel {
                 bounds: setting.bounds,
                 limits: setting.limits,
                 buffers: Vec::new(alloc),
@@ -62,7 +62,7 @@ impl Model {
             },
             running: Running::new(alloc),
             told,
-            lines,
+            queues,
             numbers,
         })
     }
@@ -87,7 +87,7 @@ impl Model {
             Event::Forget { queue, to } => Ok(self.forget(*queue, *to)),
             Event::Trim => Ok(self.trim()),
             Event::Translate { addr } => Ok(Reply::Found {
-                place: place_of(&self.ground, *addr),
+                place: place_of(&self.space, *addr),
             }),
         }
     }
@@ -105,42 +105,42 @@ impl Model {
             Some(told) => told.forgotten,
             None => 0,
         };
-        let Some(line) = self.lines.get_mut(queue as usize) else {
+        let Some(own_queue) = self.queues.get_mut(queue as usize) else {
             return Ok(Reply::Idle);
         };
         if !fits {
             return Ok(Reply::Idle);
         }
         let request = copy_of(alloc, request)?;
-        let number = line.put;
+        let number = own_queue.put;
         if number >= forgotten.saturating_add(self.setting.limits.told()) {
             let fault = Fault::QueueSpent;
             return Ok(Reply::NotPut { fault, request });
         }
-        if line.waiting.len() as u64 >= self.setting.depth {
+        if own_queue.waiting.len() as u64 >= self.setting.depth {
             let fault = Fault::QueueFull;
             return Ok(Reply::NotPut { fault, request });
         }
-        line.waiting.push(Numbered { number, request })?;
-        line.put = number.saturating_add(1);
+        own_queue.waiting.push(Numbered { number, request })?;
+        own_queue.put = number.saturating_add(1);
         Ok(Reply::Put { number })
     }
 
     fn take(&mut self, alloc: Global, queue: u64) -> Result<Reply, OutOfMemory> {
-        let Some(line) = self.lines.get_mut(queue as usize) else {
+        let Some(own_queue) = self.queues.get_mut(queue as usize) else {
             return Ok(Reply::Idle);
         };
-        match line.take(alloc)? {
+        match own_queue.take(alloc)? {
             Some(number) => Ok(Reply::Taken { number }),
             None => Ok(Reply::Idle),
         }
     }
 
     fn look(&mut self, queue: u64) -> Result<Reply, OutOfMemory> {
-        let Some(line) = self.lines.get_mut(queue as usize) else {
+        let Some(own_queue) = self.queues.get_mut(queue as usize) else {
             return Ok(Reply::Idle);
         };
-        let Some(hand) = &mut line.hand else {
+        let Some(hand) = &mut own_queue.hand else {
             return Ok(Reply::Idle);
         };
         let Some(point) = hand.wait() else {
@@ -169,10 +169,10 @@ impl Model {
     }
 
     fn bind(&mut self, alloc: Global, queue: u64) -> Result<Reply, OutOfMemory> {
-        let Some(line) = self.lines.get_mut(queue as usize) else {
+        let Some(own_queue) = self.queues.get_mut(queue as usize) else {
             return Ok(Reply::Idle);
         };
-        let Some(hand) = line.ready() else {
+        let Some(hand) = own_queue.take_ready() else {
             return Ok(Reply::Idle);
         };
         let InHand {
@@ -182,24 +182,24 @@ impl Model {
             lacked: _,
         } = hand;
         let signals = request.signals.clone()?;
-        let turn = Turn {
+        let taken = TakenRequest {
             queue,
             number,
             request,
             seen,
         };
-        let outcome = self.ground.bind(alloc, turn)?;
+        let outcome = self.space.bind(alloc, taken)?;
         if let Outcome::Accepted { .. } = &outcome {
-            line.owed = signals;
+            own_queue.owed = signals;
         }
         self.tell(queue, number, outcome)
     }
 
     fn give_up(&mut self, queue: u64) -> Result<Reply, OutOfMemory> {
-        let Some(line) = self.lines.get_mut(queue as usize) else {
+        let Some(own_queue) = self.queues.get_mut(queue as usize) else {
             return Ok(Reply::Idle);
         };
-        let Some(hand) = line.lacking() else {
+        let Some(hand) = own_queue.take_lacking() else {
             return Ok(Reply::Idle);
         };
         match hand.lacked {
@@ -212,10 +212,10 @@ impl Model {
     }
 
     fn pay(&mut self, alloc: Global, queue: u64) -> Result<Reply, OutOfMemory> {
-        let Some(line) = self.lines.get_mut(queue as usize) else {
+        let Some(own_queue) = self.queues.get_mut(queue as usize) else {
             return Ok(Reply::Idle);
         };
-        match line.pay(alloc)? {
+        match own_queue.pay(alloc)? {
             Some(point) => Ok(self.raise(point)),
             None => Ok(Reply::Idle),
         }
@@ -232,26 +232,26 @@ impl Model {
     }
 
     fn create(&mut self, pages: u64) -> Reply {
-        reply_of(self.ground.create(pages).map(|id| Reply::Created { id }))
+        reply_of(self.space.create(pages).map(|id| Reply::Created { id }))
     }
 
     fn destroy(&mut self, alloc: Global, id: &BufferId) -> Reply {
         let jobs = self.running.count_users(id);
-        let destroyed = self.ground.destroy(alloc, id, jobs);
+        let destroyed = self.space.destroy(alloc, id, jobs);
         reply_of(destroyed.map(|_| Reply::Destroyed))
     }
 
     fn rewind(&mut self) -> Reply {
-        reply_of(self.ground.rewind().map(|item| Reply::Rewound { item }))
+        reply_of(self.space.rewind().map(|item| Reply::Rewound { item }))
     }
 
     fn withdraw(&mut self, alloc: Global, entry: u64) -> Reply {
-        let withdrawn = self.ground.withdraw(alloc, entry);
+        let withdrawn = self.space.withdraw(alloc, entry);
         reply_of(withdrawn.map(|item| Reply::Withdrawn { item }))
     }
 
     fn settle(&mut self, alloc: Global, to: u64) -> Reply {
-        let settled = self.ground.settle(alloc, to);
+        let settled = self.space.settle(alloc, to);
         reply_of(settled.map(|count| Reply::Settled { count }))
     }
 
@@ -264,7 +264,7 @@ impl Model {
         if !told.has(to) {
             return Reply::Refused { fault };
         }
-        if let Some(by) = self.ground.history.told_below(queue, to) {
+        if let Some(by) = self.space.history.told_below(queue, to) {
             let fault = Fault::Held { by };
             return Reply::Refused { fault };
         }
@@ -274,7 +274,7 @@ impl Model {
 
     /// Room is given back, which is not seen; but not while an entry is held.
     fn trim(&self) -> Reply {
-        match self.ground.history.oldest() {
+        match self.space.history.oldest() {
             Some(by) => Reply::Refused {
                 fault: Fault::Held { by },
             },
@@ -283,7 +283,7 @@ impl Model {
     }
 
     fn job_begin(&mut self, alloc: Global, accesses: &[Access]) -> Reply {
-        match self.running.begin(alloc, &self.ground, accesses) {
+        match self.running.begin(alloc, &self.space, accesses) {
             Ok((job, places)) => Reply::Begun { job, places },
             Err(fault) => Reply::Refused { fault },
         }

@@ -38,7 +38,7 @@ impl Random {
 
     /// One of the numbers, 0 where there are none.
     pub fn among(&mut self, numbers: &[u64]) -> u64 {
-        let place = self.below((numbers.len() as u64).max(1));
-        numbers.get(place as usize).copied().unwrap_or(0)
+        let position = self.below((numbers.len() as u64).max(1));
+        numbers.get(position as usize).copied().unwrap_or(0)
     }
 }

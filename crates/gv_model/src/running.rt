@@ -1,6 +1,6 @@
 //! Running jobs by the definitions alone: which buffers each uses, and whether it writes them.
-use crate::ground::Ground;
 use crate::lists::push;
+use crate::space_model::SpaceModel;
 use gv_buffers::Usage;
 use gv_types::{Backing, BufferId, Fault, PAGE_BYTES};
 use gv_vm::{Access, Place, Target};
@@ -29,8 +29,8 @@ pub struct Running {
 }
 
 /// What stands behind an address, by what the entries say of its page.
-pub fn place_of(ground: &Ground, addr: u64) -> Option<Place> {
-    let entry = ground.view(addr / PAGE_BYTES)?;
+pub fn place_of(space_model: &SpaceModel, addr: u64) -> Option<Place> {
+    let entry = space_model.view(addr / PAGE_BYTES)?;
     let target = match &entry.backing {
         Backing::Buffer { id, page } => Target::Buffer {
             id: *id,
@@ -78,8 +78,13 @@ impl Running {
     }
 
     /// Finds the place of one access, and uses what is behind it.
-    fn hold(&mut self, ground: &Ground, number: u64, access: &Access) -> Result<Place, Fault> {
-        let Some(place) = place_of(ground, access.addr) else {
+    fn hold(
+        &mut self,
+        space_model: &SpaceModel,
+        number: u64,
+        access: &Access,
+    ) -> Result<Place, Fault> {
+        let Some(place) = place_of(space_model, access.addr) else {
             return Err(Fault::Unmapped { access: number });
         };
         let writes = access.usage == Usage::Write;
@@ -104,14 +109,14 @@ impl Running {
     fn hold_all(
         &mut self,
         alloc: Global,
-        ground: &Ground,
+        space_model: &SpaceModel,
         accesses: &[Access],
     ) -> Result<Vec<Place>, Fault> {
         // The borrow checker proves the loop only where the function names the type inside the places.
         let _target = Target::Zero;
         let mut places = Vec::new(alloc);
         for (number, access) in accesses.iter().enumerate() {
-            let place = self.hold(ground, number as u64, access)?;
+            let place = self.hold(space_model, number as u64, access)?;
             push(&mut places, place)?;
         }
         Ok(places)
@@ -121,7 +126,7 @@ impl Running {
     pub fn begin(
         &mut self,
         alloc: Global,
-        ground: &Ground,
+        space_model: &SpaceModel,
         accesses: &[Access],
     ) -> Result<(u64, Vec<Place>), Fault> {
         if accesses.len() > MOST_ACCESSES {
@@ -131,7 +136,7 @@ impl Running {
             return Err(Fault::TooManyJobs);
         }
         let job = self.begun;
-        match self.hold_all(alloc, ground, accesses) {
+        match self.hold_all(alloc, space_model, accesses) {
             Ok(places) => {
                 push(&mut self.jobs, job)?;
                 self.begun = job.saturating_add(1);

@@ -3,14 +3,14 @@ use gv_vm::Outcome;
 use std::alloc::Global;
 
 #[derive(Drop)]
-pub struct Told {
+pub struct QueueOutcomes {
     pub outcomes: Vec<Outcome>,
     pub forgotten: u64,
 }
 
-impl Told {
-    pub fn new(alloc: Global) -> Told {
-        Told {
+impl QueueOutcomes {
+    pub fn new(alloc: Global) -> QueueOutcomes {
+        QueueOutcomes {
             outcomes: Vec::new(alloc),
             forgotten: 0,
         }

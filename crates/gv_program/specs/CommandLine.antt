@@ -145,8 +145,8 @@ abbrev pub threads_line : App
 threads_line = with_flag (with_rule (with_rule (new_app (codes "threads")) queues_rule) turns_rule) (codes "explain")
 
 -- a command is this one, and none of its arguments is one of its subcommands too
-abbrev pub IsLine : App → Command → Type 0
-IsLine line command = (app_of command ≡ line) × ((out-Command command).has_globals ≡ false)
+abbrev pub IsCommandOf : App → Command → Type 0
+IsCommandOf line command = (app_of command ≡ line) × ((out-Command command).has_globals ≡ false)
 
 -- the program, where a subcommand may not be left out, and the version may be asked for
 abbrev pub bare_line : App

@@ -5,7 +5,7 @@ use Rattle.gv_text.specs.Reading.{TakesFew, TellsLength, TellsReads, TellsWrites
 use Rattle.gv_text.specs.Script.{IsRun, StopsAt, IsStart}
 use Rattle.gv_session.specs.declared.fault.ScriptFault.{ScriptFault}
 use Rattle.gv_session.specs.declared.fault.ScriptFault.TheVariants.{BadLine, ScriptTooLong, ReadFault, OutOfMemory}
-use Rattle.gv_threads.specs.Ending.{HasNotBegun, RunsAs}
+use Rattle.gv_threads.specs.Ending.{HasNotBegun, EndsAs}
 use Rattle.gv_threads.specs.Running.{IsThreadsRun}
 use Rattle.gv_threads.specs.declared.fault.ThreadsFault.{ThreadsFault}
 use Rattle.gv_program.specs.Fault.{of_threads, script_status, status_of}
@@ -36,7 +36,7 @@ exit_status (Err fault) = script_status fault
 pub record HasRunThreads {R W : Type 0} (remaining : R → Option (List ℕ)) (read_failed : R → Bool) (written : W → Option (List ℕ)) (write_failed : W → Bool) (reader reader_after : R) (writer writer_after : W) (count : ℕ) (answer : Result (Unit {0}) ThreadsFault) : Type 0 where
   pub text : OnOk answer ((script text : List ℕ) × IfSome (remaining reader) (λ bytes. script ≡ bytes)
       × IsThreadsRun script count text × Appends (written writer) (written writer_after) text)
-  pub ends : RunsAs (read_failed reader) (read_failed reader_after) (write_failed writer) (write_failed writer_after) count answer
+  pub ends : EndsAs (read_failed reader) (read_failed reader_after) (write_failed writer) (write_failed writer_after) count answer
   pub silent : IfErr answer (λ fault. HasNotBegun fault → writer_after ≡ writer)
   pub few : TakesFew (remaining reader) (remaining reader_after)
 

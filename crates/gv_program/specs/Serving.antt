@@ -2,7 +2,7 @@
 use Rattle.std.specs.Prelude.{◌≡◌, ℕ, List, Bool, Option, Result, Ok, Err, OnOk}
 use Rattle.std.specs.Io.KnownBytes.{Appends, Consumes}
 use Rattle.gv_text.specs.Script.{RunsWhole}
-use Rattle.gv_serve.specs.Dialogue.{IsBroken, IsDialogue, IsOver, TellsReads, TellsWrites}
+use Rattle.gv_serve.specs.Dialogue.{IsBroken, IsDialogue, IsReadToEnd, TellsReads, TellsWrites}
 use Rattle.gv_serve.specs.declared.fault.ServeFault.{ServeFault}
 use Rattle.gv_serve.specs.declared.fault.ServeFault.TheVariants.{ReadFault, WriteFault, OutOfMemory}
 use Rattle.gv_program.specs.Status.{broken_stream, done, no_memory}
@@ -11,7 +11,7 @@ use Rattle.gv_program.specs.Status.{broken_stream, done, no_memory}
 -- that are left and whether it has failed, and of a writer, of which these tell what was written and whether it has failed.
 pub record HasServed {R W : Type 0} (remaining : R → Option (List ℕ)) (read_failed : R → Bool) (written : W → Option (List ℕ)) (write_failed : W → Bool) (reader reader_after : R) (writer writer_after : W) (answer : Result (Unit {0}) ServeFault) : Type 0 where
   pub text : OnOk answer ((input text : List ℕ) × (others : ℕ)
-      × Consumes (remaining reader) (remaining reader_after) input × IsOver (remaining reader_after) input
+      × Consumes (remaining reader) (remaining reader_after) input × IsReadToEnd (remaining reader_after) input
       × IsDialogue input text others × Appends (written writer) (written writer_after) text
       × (others ≡ 0 → (refusals : ℕ) × RunsWhole input text refusals))
   pub broken : answer ≡ Err ReadFault → (input text : List ℕ) × Consumes (remaining reader) (remaining reader_after) input

@@ -13,7 +13,7 @@ pub enum Kind {
     /// `--NAME`: it is given or not.
     Flag,
     /// A word in its place.
-    Place(&'static str),
+    Positional(&'static str),
     /// `--NAME VALUE`.
     Text(&'static str),
     /// `--NAME VALUE`, any number of times.
@@ -32,7 +32,7 @@ pub struct Numbers {
 
 /// An argument of a subcommand.
 #[derive(Clone, Copy)]
-pub struct Row {
+pub struct Argument {
     pub name: &'static str,
     pub help: &'static str,
     pub kind: Kind,
@@ -41,7 +41,7 @@ pub struct Row {
 }
 
 /// The argument of a row.
-pub fn arg_of<'a>(alloc: Global, row: &Row) -> Arg<'a>
+pub fn arg_of<'a>(alloc: Global, row: &Argument) -> Arg<'a>
     ensures rule { rule_of result ≡ rule_of_row row.now }
     ensures one { result.global ≡ false }
 {
@@ -50,7 +50,7 @@ pub fn arg_of<'a>(alloc: Global, row: &Row) -> Arg<'a>
         .required(row.needed);
     match row.kind {
         Kind::Flag => arg.long(row.name).action(ArgAction::SetTrue),
-        Kind::Place(shown) => arg.value_name(shown),
+        Kind::Positional(shown) => arg.value_name(shown),
         Kind::Text(shown) => arg.long(row.name).value_name(shown),
         Kind::Texts(shown) => arg
             .long(row.name)

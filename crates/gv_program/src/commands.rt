@@ -1,10 +1,10 @@
 //! The subcommands and their arguments, in a table.
 ghost use Rattle.std.specs.Prelude.{◌≡◌, IfOk};
 ghost use Rattle.clap.specs.Words.{app_of, with_subcommand};
-ghost use Rattle.gv_program.specs.CommandLine.{IsLine, bare_line, command_line};
+ghost use Rattle.gv_program.specs.CommandLine.{IsCommandOf, bare_line, command_line};
 ghost use Rattle.gv_program.specs.Rows.{Adds, line_of, with_lines};
 
-use crate::args::{Row, arg_of};
+use crate::args::{Argument, arg_of};
 use crate::help;
 use crate::rows::{
     ADDRESSES, ALL, AS_JSON, AS_PICTURE, AS_SCRIPT, AT, EXPLAIN, FILE, FIRST, FLAGS, FORMAT, JSON,
@@ -15,29 +15,29 @@ use std::alloc::{AllocError, Global};
 
 /// A subcommand.
 #[derive(Clone, Copy)]
-pub struct Line {
+pub struct Subcommand {
     pub name: &'static str,
     pub about: &'static str,
     /// The text after its long help.
     pub after: &'static str,
-    pub rows: &'static [Row],
+    pub rows: &'static [Argument],
 }
 
 /// The subcommands, as help shows them.
-const LINES: [Line; 6] = [
-    Line {
+const SUBCOMMANDS: [Subcommand; 6] = [
+    Subcommand {
         name: "run",
         about: help::RUN,
         after: help::SCRIPT,
         rows: &[EXPLAIN, FILE],
     },
-    Line {
+    Subcommand {
         name: "serve",
         about: help::SERVE,
         after: help::SERVE_LINES,
         rows: &[JSON, FILE],
     },
-    Line {
+    Subcommand {
         name: "replay",
         about: help::REPLAY,
         after: help::REPLAY_STATUSES,
@@ -46,19 +46,19 @@ const LINES: [Line; 6] = [
             WIDTH, FILE,
         ],
     },
-    Line {
+    Subcommand {
         name: "draw",
         about: help::DRAW,
         after: help::DRAW_STATUSES,
         rows: &[AT, WIDTH, QUIET, FILE],
     },
-    Line {
+    Subcommand {
         name: "compare",
         about: help::COMPARE,
         after: help::COMPARE_STATUSES,
         rows: &[FIRST, SECOND, LOG_FORMAT, FLAGS, PID, SPACE, QUIET],
     },
-    Line {
+    Subcommand {
         name: "threads",
         about: help::THREADS,
         after: help::THREADS_SCRIPT,
@@ -70,7 +70,7 @@ const LINES: [Line; 6] = [
 pub fn command<'a>(alloc: Global) -> Result<Command<'a>, AllocError>
     ensures { IfOk result (λ command. app_of command ≡ command_line) }
 {
-    with_lines(alloc, bare_command(alloc), &LINES)
+    with_lines(alloc, bare_command(alloc), &SUBCOMMANDS)
 }
 
 /// The program without its subcommands.
@@ -88,7 +88,7 @@ fn bare_command<'a>(alloc: Global) -> Command<'a>
 fn with_lines<'a>(
     alloc: Global,
     command: Command<'a>,
-    lines: &[Line],
+    lines: &[Subcommand],
 ) -> Result<Command<'a>, AllocError>
     ensures { IfOk result (λ made. app_of made ≡ with_lines (app_of command.entry) lines.now) }
 {
@@ -103,7 +103,7 @@ fn with_lines<'a>(
 fn with_line<'a>(
     alloc: Global,
     command: Command<'a>,
-    line: &Line,
+    line: &Subcommand,
 ) -> Result<Command<'a>, AllocError>
     ensures { IfOk result (λ made. app_of made ≡ with_subcommand (app_of command.entry) (line_of line.now).top) }
 {
@@ -111,8 +111,8 @@ fn with_line<'a>(
 }
 
 /// A subcommand and its arguments.
-fn line_command<'a>(alloc: Global, line: &Line) -> Result<Command<'a>, AllocError>
-    ensures { IfOk result (IsLine (line_of line.now)) }
+fn line_command<'a>(alloc: Global, line: &Subcommand) -> Result<Command<'a>, AllocError>
+    ensures { IfOk result (IsCommandOf (line_of line.now)) }
 {
     let head = Command::new(alloc, line.name)
         .about(line.about)
@@ -124,7 +124,7 @@ fn line_command<'a>(alloc: Global, line: &Line) -> Result<Command<'a>, AllocErro
 fn with_rows<'a>(
     alloc: Global,
     command: Command<'a>,
-    rows: &[Row],
+    rows: &[Argument],
 ) -> Result<Command<'a>, AllocError>
     ensures { IfOk result (Adds command.entry rows.now) }
 {

@@ -2,9 +2,9 @@
 ghost use Rattle.std.specs.Prelude.{◌≢◌};
 ghost use Rattle.gv_program.specs.Status.{IsStatus, bad_script};
 
-use crate::fault::{ProgramFault, told, told_of};
+use crate::fault::{ProgramFault, print_fault, print_unless_closed};
 use crate::files::opened;
-use crate::progress::Onlooker;
+use crate::progress::ProgressReporter;
 use crate::replaying::list_log;
 use crate::status::{BAD_WORDS, DIFFERENT, DONE};
 use crate::words::CompareWords;
@@ -24,12 +24,12 @@ pub fn compare<R: AllocGlobal + Eprint + Clock, T: Files, K: Sink + Pipe>(
 ) -> u8
     ensures { IsStatus result }
 {
-    let onlooker = Onlooker::new(rt, is_terminal && !asked.quiet);
-    let left = match read_file(rt.alloc(), files, &onlooker, asked.first) {
+    let reporter = ProgressReporter::new(rt, is_terminal && !asked.quiet);
+    let lhs = match read_file(rt.alloc(), files, &reporter, asked.first) {
         Ok(bytes) => bytes,
-        Err(fault) => return told(rt, fault),
+        Err(fault) => return print_fault(rt, fault),
     };
-    let right = match second_of(rt.alloc(), files, &onlooker, &asked) {
+    let rhs = match second_of(rt.alloc(), files, &reporter, &asked) {
         Ok(bytes) => bytes,
         Err(fault) => return no_list(rt, fault),
     };
@@ -39,9 +39,12 @@ pub fn compare<R: AllocGlobal + Eprint + Clock, T: Files, K: Sink + Pipe>(
         Some(_) => None,
         None => asked.space,
     };
-    match compare_of(rt.alloc(), &left, &right, space, &mut report) {
+    match compare_of(rt.alloc(), &lhs, &rhs, space, &mut report) {
         Ok(pages) => written(rt, writer, report.as_str(), pages),
-        Err(CompareFault::OutOfMemory) => told(rt, ProgramFault::Script(ScriptFault::OutOfMemory)),
+        Err(CompareFault::OutOfMemory) => print_fault(
+            rt,
+            ProgramFault::Script(ScriptFault::OutOfMemory),
+        ),
         Err(fault) => refused(rt, fault),
     }
 }
@@ -50,25 +53,25 @@ pub fn compare<R: AllocGlobal + Eprint + Clock, T: Files, K: Sink + Pipe>(
 fn read_file<R: Eprint + Clock, T: Files>(
     alloc: Global,
     files: &T,
-    onlooker: &Onlooker<'_, R>,
+    reporter: &ProgressReporter<'_, R>,
     path: &str,
 ) -> Result<Vec<u8>, ProgramFault> {
     let mut reader = opened(files, path)?;
-    onlooker.read_all(alloc, &mut reader, onlooker.len_of(files, path))
+    reporter.read_all(alloc, &mut reader, reporter.len_if_shown(files, path))
 }
 
 /// The second list: a file, or what a log comes to.
 fn second_of<R: Eprint + Clock, T: Files>(
     alloc: Global,
     files: &T,
-    onlooker: &Onlooker<'_, R>,
+    reporter: &ProgressReporter<'_, R>,
     asked: &CompareWords<'_>,
 ) -> Result<Vec<u8>, ProgramFault> {
     let Some(format) = asked.format else {
-        return read_file(alloc, files, onlooker, asked.second);
+        return read_file(alloc, files, reporter, asked.second);
     };
     let mut list = MemorySink::new(alloc);
-    list_log(alloc, files, onlooker, asked, format, &mut list)?;
+    list_log(alloc, files, reporter, asked, format, &mut list)?;
     Ok(Vec::from_slice(alloc, list.bytes())?)
 }
 
@@ -78,7 +81,7 @@ fn no_list<R: Eprint>(rt: &R, fault: ProgramFault) -> u8
     // No status of lists that differ.
     ensures apart { result ≢ bad_script }
 {
-    let status = told(rt, fault);
+    let status = print_fault(rt, fault);
     if status == DIFFERENT {
         BAD_WORDS
     } else {
@@ -91,7 +94,7 @@ fn written<R: Eprint, K: Sink + Pipe>(rt: &R, writer: &mut K, report: &str, page
     ensures { IsStatus result }
 {
     if write_all(writer, report.as_bytes()).is_err() {
-        return told_of(rt, writer, ProgramFault::Script(ScriptFault::WriteFault));
+        return print_unless_closed(rt, writer, ProgramFault::Script(ScriptFault::WriteFault));
     }
     if pages == 0 { DONE } else { DIFFERENT }
 }

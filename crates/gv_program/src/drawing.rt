@@ -1,9 +1,9 @@
-//! Pictures.
+//! `vmbind draw`: draws a script.
 ghost use Rattle.gv_program.specs.Status.{IsStatus};
 
-use crate::fault::{ProgramFault, told, told_of};
+use crate::fault::{ProgramFault, print_fault, print_unless_closed};
 use crate::files::{address, opened};
-use crate::progress::Onlooker;
+use crate::progress::ProgressReporter;
 use crate::status::DONE;
 use gv_draw::{DrawFault, Options, draw_script};
 use gv_text::{Pipe, ScriptFault, Sink, Source, write_all};
@@ -11,12 +11,12 @@ use std::alloc::Global;
 use std::rt::{Clock, Files};
 
 /// What picture is asked: around an address if one is given, so many pixels wide, of the script of a file or of standard input, and
-/// whether it is told how far that is.
+/// whether its progress is shown.
 #[derive(Clone, Copy)]
-pub struct Picture<'a> {
+pub struct DrawWords<'a> {
     pub at: Option<&'a str>,
     pub width: u64,
-    pub is_told: bool,
+    pub shows_progress: bool,
     pub file: Option<&'a str>,
 }
 
@@ -24,16 +24,16 @@ pub struct Picture<'a> {
 pub fn draw<R: AllocGlobal + Eprint + Clock, T: Files, S: Source, K: Sink + Pipe>(
     rt: &R,
     files: &T,
-    asked: Picture<'_>,
+    asked: DrawWords<'_>,
     reader: &mut S,
     writer: &mut K,
 ) -> u8
     ensures { IsStatus result }
 {
-    let onlooker = Onlooker::new(rt, asked.is_told);
-    match drawn(rt.alloc(), files, &onlooker, asked, reader) {
+    let reporter = ProgressReporter::new(rt, asked.shows_progress);
+    match drawn(rt.alloc(), files, &reporter, asked, reader) {
         Ok(picture) => shown(rt, writer, picture.as_str()),
-        Err(fault) => told(rt, fault),
+        Err(fault) => print_fault(rt, fault),
     }
 }
 
@@ -43,7 +43,7 @@ pub fn shown<R: Eprint, K: Sink + Pipe>(rt: &R, writer: &mut K, text: &str) -> u
 {
     match write_all(writer, text.as_bytes()) {
         Ok(()) => DONE,
-        Err(_) => told_of(rt, writer, ProgramFault::Script(ScriptFault::WriteFault)),
+        Err(_) => print_unless_closed(rt, writer, ProgramFault::Script(ScriptFault::WriteFault)),
     }
 }
 
@@ -51,8 +51,8 @@ pub fn shown<R: Eprint, K: Sink + Pipe>(rt: &R, writer: &mut K, text: &str) -> u
 fn drawn<R: Eprint + Clock, T: Files, S: Source>(
     alloc: Global,
     files: &T,
-    onlooker: &Onlooker<'_, R>,
-    asked: Picture<'_>,
+    reporter: &ProgressReporter<'_, R>,
+    asked: DrawWords<'_>,
     reader: &mut S,
 ) -> Result<String, ProgramFault> {
     let at = match asked.at {
@@ -62,9 +62,9 @@ fn drawn<R: Eprint + Clock, T: Files, S: Source>(
     let script = match asked.file {
         Some(path) => {
             let mut file = opened(files, path)?;
-            onlooker.read_all(alloc, &mut file, onlooker.len_of(files, path))?
+            reporter.read_all(alloc, &mut file, reporter.len_if_shown(files, path))?
         }
-        None => onlooker.read_all(alloc, reader, None)?,
+        None => reporter.read_all(alloc, reader, None)?,
     };
     let options = Options {
         at,

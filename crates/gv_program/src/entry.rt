@@ -17,8 +17,8 @@ ghost use Rattle.gv_program.specs.Run.{HasRun, HasRunSome, HasRunThreads, exit_s
 ghost use Rattle.gv_program.specs.Status.{IsStatus, bad_words, broken_stream, done, no_memory};
 
 use crate::comparing::compare;
-use crate::drawing::{Picture, draw};
-use crate::fault::{ProgramFault, explain, told, told_of};
+use crate::drawing::{DrawWords, draw};
+use crate::fault::{ProgramFault, explain, print_fault, print_unless_closed};
 use crate::files::opened;
 use crate::replaying::replay;
 use crate::serving::{serve, serve_file};
@@ -36,7 +36,7 @@ use std::thread::Threads;
 use std::{env, io};
 
 /// Does what the words of the command line ask for, over the standard streams, with the host's threads and files, and gives
-/// the exit status. It may wait, for threads alone. Where standard error is a terminal, it is told there how far a long reading is.
+/// the exit status. It may wait, for threads alone. Where standard error is a terminal, the progress of a long reading is shown there.
 pub fn program<
     R: Env + AllocGlobal + Input + Print + Eprint + Clock,
     T: Threads + Wait + Sync + Files,
@@ -44,11 +44,11 @@ pub fn program<
     ensures { IsStatus result }
 {
     if !is_stack_there(DONE) {
-        return told(rt, ProgramFault::Script(ScriptFault::OutOfMemory));
+        return print_fault(rt, ProgramFault::Script(ScriptFault::OutOfMemory));
     }
     let words = match arguments(rt) {
         Ok(words) => words,
-        Err(fault) => return told(rt, fault),
+        Err(fault) => return print_fault(rt, fault),
     };
     let mut reader = ReadSource::new(rt.reader());
     let mut writer = WriteSink::new(io::writer(rt));
@@ -104,7 +104,10 @@ fn obey<
     match read_words(rt.alloc(), words) {
         Ok(task) => carry_out(rt, host, task, is_terminal, reader, writer),
         Err(WordsFault::Printed(error)) => printed(rt, &error),
-        Err(WordsFault::OutOfMemory) => told(rt, ProgramFault::Script(ScriptFault::OutOfMemory)),
+        Err(WordsFault::OutOfMemory) => print_fault(
+            rt,
+            ProgramFault::Script(ScriptFault::OutOfMemory),
+        ),
     }
 }
 
@@ -152,10 +155,10 @@ fn carry_out<
             quiet,
             file,
         } => {
-            let asked = Picture {
+            let asked = DrawWords {
                 at,
                 width,
-                is_told: is_terminal && !quiet,
+                shows_progress: is_terminal && !quiet,
                 file,
             };
             draw(rt, host, asked, reader, writer)
@@ -202,7 +205,7 @@ fn run<R: AllocGlobal + Eprint, S: Source, K: Sink + Pipe>(
     match run_script_explained(rt.alloc(), reader, writer, &mut why) {
         Ok(()) => DONE,
         Err(fault) => {
-            let status = told_of(rt, writer, ProgramFault::from(fault));
+            let status = print_unless_closed(rt, writer, ProgramFault::from(fault));
             explain(rt, explains, why);
             status
         }
@@ -221,7 +224,7 @@ fn run_file<R: AllocGlobal + Eprint, T: Files, K: Sink + Pipe>(
 {
     match opened(files, path) {
         Ok(mut reader) => run(rt, explains, &mut reader, writer),
-        Err(fault) => told(rt, fault),
+        Err(fault) => print_fault(rt, fault),
     }
 }
 
@@ -254,7 +257,7 @@ fn run_with_threads<R: AllocGlobal + Eprint, T: Threads + Wait + Sync, S: Source
     match run_threads_explained(threads, reader, writer, terms, &mut why) {
         Ok(()) => DONE,
         Err(ended) => {
-            let status = told_of(rt, writer, ProgramFault::from(ended));
+            let status = print_unless_closed(rt, writer, ProgramFault::from(ended));
             explain(rt, asked.explain, why);
             status
         }
@@ -276,6 +279,6 @@ fn printed<R: Print + Eprint>(rt: &R, error: &Error) -> u8
     match outcome {
         Ok(()) => DONE,
         Err(error) if is_broken_pipe(&error) => BROKEN_STREAM,
-        Err(_) => told(rt, ProgramFault::Script(ScriptFault::WriteFault)),
+        Err(_) => print_fault(rt, ProgramFault::Script(ScriptFault::WriteFault)),
     }
 }

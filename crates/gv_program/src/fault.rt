@@ -15,7 +15,7 @@ use std::fmt;
 /// Why the program did not do what the words asked for. It is shown as its line on standard error.
 #[derive(Clone, Copy, Debug, PartialEq, Eq)]
 pub enum ProgramFault {
-    /// The script was not run to its end. Help that can't be written, and words for which memory is refused, are told
+    /// The script was not run to its end. Help that can't be written, and words for which memory is refused, are named
     /// by the same faults.
     Script(ScriptFault),
     /// The queues of a threads script did not run to their end.
@@ -159,7 +159,7 @@ impl From<AllocError> for ProgramFault {
 }
 
 /// Prints the line of a fault, and gives its exit status.
-pub fn told<R: Eprint>(rt: &R, fault: ProgramFault) -> u8
+pub fn print_fault<R: Eprint>(rt: &R, fault: ProgramFault) -> u8
     ensures { result ≡ status_of fault }
 {
     let _ = rt.eprintln(fault);
@@ -167,12 +167,12 @@ pub fn told<R: Eprint>(rt: &R, fault: ProgramFault) -> u8
 }
 
 /// Tells a fault too, but prints nothing where a write failed since the writer's reader has gone: it wanted no more.
-pub fn told_of<R: Eprint, K: Pipe>(rt: &R, writer: &K, fault: ProgramFault) -> u8
+pub fn print_unless_closed<R: Eprint, K: Pipe>(rt: &R, writer: &K, fault: ProgramFault) -> u8
     ensures { result ≡ status_of fault }
 {
     match fault {
         ProgramFault::Script(ScriptFault::WriteFault) if writer.is_closed() => fault.status(),
-        _ => told(rt, fault),
+        _ => print_fault(rt, fault),
     }
 }
 

@@ -1,4 +1,4 @@
-//! Files that the words name.
+//! Files and addresses that the arguments name.
 ghost use Rattle.std.specs.Prelude.{◌≡◌, IfErr};
 
 use crate::fault::ProgramFault;

@@ -1,6 +1,6 @@
 //! Pictures of logs.
 
-use gv_draw::{History, Options, RowKind, Told, write_picture};
+use gv_draw::{History, Options, RowContent, RowKind, write_picture};
 use gv_replay::{Act, Cause, ReplayFault, Terms, Watcher, number_of, watch, write_op, write_time};
 use gv_space::Space;
 use gv_text::{Sink, Source, write_all};
@@ -76,13 +76,13 @@ impl LogDrawing {
     }
 
     /// What a row tells of a line.
-    fn told(&mut self, act: &Act, refused: Option<Fault>) -> Result<Told, OutOfMemory> {
+    fn content(&mut self, act: &Act, refused: Option<Fault>) -> Result<RowContent, OutOfMemory> {
         let number = self.count(refused);
         let answer = match refused {
             Some(fault) => String::from_str(self.alloc, fault.name())?,
             None => String::new(self.alloc),
         };
-        Ok(Told {
+        Ok(RowContent {
             number,
             label: label_of(self.alloc, act)?,
             answer,
@@ -105,9 +105,9 @@ impl Watcher for LogDrawing {
     ) -> Result<(), ReplayFault> {
         self.give_name(&act.op)?;
         self.note_ranges(done)?;
-        let told = self.told(act, refused)?;
+        let content = self.content(act, refused)?;
         self.history
-            .add(self.alloc, told, self.ranges.as_slice(), space)?;
+            .add(self.alloc, content, self.ranges.as_slice(), space)?;
         Ok(())
     }
 

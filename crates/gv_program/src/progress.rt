@@ -1,4 +1,4 @@
-//! How far the reading of a file or of standard input is, told while it lasts.
+//! Shows on a terminal how far the reading of a file or of standard input is.
 ghost use Rattle.std.specs.Prelude.{◌≡◌};
 
 use crate::fault::ProgramFault;
@@ -18,19 +18,19 @@ const WIPE: &str = "\r\x1b[K";
 
 /// Who is told how far it is: whoever sits before standard error, if it is a terminal and quiet isn't asked for.
 #[derive(Drop)]
-pub struct Onlooker<'a, R> {
+pub struct ProgressReporter<'a, R> {
     rt: &'a R,
-    is_there: bool,
+    is_shown: bool,
 }
 
-impl<'a, R: Eprint + Clock> Onlooker<'a, R> {
-    pub fn new(rt: &'a R, is_there: bool) -> Onlooker<'a, R> {
-        Onlooker { rt, is_there }
+impl<'a, R: Eprint + Clock> ProgressReporter<'a, R> {
+    pub fn new(rt: &'a R, is_shown: bool) -> ProgressReporter<'a, R> {
+        ProgressReporter { rt, is_shown }
     }
 
     /// How many bytes a file has, where it is told and known.
-    pub fn len_of<T: Files>(&self, files: &T, path: &str) -> Option<u64> {
-        if !self.is_there {
+    pub fn len_if_shown<T: Files>(&self, files: &T, path: &str) -> Option<u64> {
+        if !self.is_shown {
             return None;
         }
         let len = fs::metadata(files, path).ok()?.len();
@@ -38,20 +38,20 @@ impl<'a, R: Eprint + Clock> Onlooker<'a, R> {
     }
 
     /// The same source, of so many bytes where that is known, whose reads are told. It is to be finished.
-    pub fn watch<'s, S: Source>(
+    pub fn reported<'s, S: Source>(
         &self,
         source: &'s mut S,
         of: Option<u64>,
-    ) -> Watched<'a, 's, R, S> {
-        let began = if self.is_there {
+    ) -> ReportedSource<'a, 's, R, S> {
+        let began = if self.is_shown {
             time_of(self.rt)
         } else {
             None
         };
-        Watched {
+        ReportedSource {
             rt: self.rt,
             source,
-            far: Far {
+            progress: Progress {
                 lines: 0,
                 bytes: 0,
                 of,
@@ -70,9 +70,9 @@ impl<'a, R: Eprint + Clock> Onlooker<'a, R> {
         source: &mut S,
         of: Option<u64>,
     ) -> Result<Vec<u8>, ProgramFault> {
-        let mut watched = self.watch(source, of);
-        let bytes = read_all(alloc, &mut watched);
-        watched.finish();
+        let mut reported_source = self.reported(source, of);
+        let bytes = read_all(alloc, &mut reported_source);
+        reported_source.finish();
         bytes
     }
 }
@@ -86,14 +86,14 @@ fn time_of<R: Clock>(rt: &R) -> Option<u64> {
 
 /// How far it is: the lines and bytes that were read, of how many bytes where that is known, and the lines a second.
 #[derive(Clone, Copy, Debug, Drop, PartialEq, Eq)]
-struct Far {
+struct Progress {
     lines: u64,
     bytes: u64,
     of: Option<u64>,
     rate: u64,
 }
 
-impl fmt::Display for Far {
+impl fmt::Display for Progress {
     fn fmt<W: fmt::Write>(&self, f: &mut fmt::Formatter<W>) -> fmt::Result {
         let (lines, bytes, rate) = (self.lines, self.bytes, self.rate);
         write!(f, "{WIPE}{lines} lines, {bytes} ")?;
@@ -106,21 +106,21 @@ impl fmt::Display for Far {
 
 /// A source whose reads are told. Where nobody is there, the clock isn't read.
 #[derive(Drop)]
-pub struct Watched<'a, 's, R, S> {
+pub struct ReportedSource<'a, 's, R, S> {
     rt: &'a R,
     source: &'s mut S,
-    far: Far,
+    progress: Progress,
     /// When the first read began, if it is told, and when it was told last.
     began: Option<u64>,
     told: Option<u64>,
     has_failed: bool,
 }
 
-impl<'a, 's, R: Eprint + Clock, S: Source> Watched<'a, 's, R, S> {
+impl<'a, 's, R: Eprint + Clock, S: Source> ReportedSource<'a, 's, R, S> {
     /// Takes away what was told, where it isn't yet.
     pub fn finish(self) {
-        let mut watched = self;
-        watched.end();
+        let mut reported_source = self;
+        reported_source.end();
     }
 
     /// Takes away what was told, so that what comes to be written stands alone, and tells no more.
@@ -138,8 +138,8 @@ impl<'a, 's, R: Eprint + Clock, S: Source> Watched<'a, 's, R, S> {
         ensures { self.new.has_failed ≡ self.old.has_failed }
     {
         let lines = bytes.iter().filter(|byte| **byte == b'\n').count() as u64;
-        self.far.lines = self.far.lines.saturating_add(lines);
-        self.far.bytes = self.far.bytes.saturating_add(bytes.len() as u64);
+        self.progress.lines = self.progress.lines.saturating_add(lines);
+        self.progress.bytes = self.progress.bytes.saturating_add(bytes.len() as u64);
     }
 
     /// Tells how far it is, if it is time.
@@ -157,14 +157,14 @@ impl<'a, 's, R: Eprint + Clock, S: Source> Watched<'a, 's, R, S> {
         if is_early {
             return;
         }
-        let lines = self.far.lines.saturating_mul(1_000);
-        self.far.rate = lines.checked_div(passed).unwrap_or(0);
+        let lines = self.progress.lines.saturating_mul(1_000);
+        self.progress.rate = lines.checked_div(passed).unwrap_or(0);
         self.told = Some(now);
-        let _ = self.rt.eprint(self.far);
+        let _ = self.rt.eprint(self.progress);
     }
 }
 
-impl<'a, 's, R: Eprint + Clock, S: Source> Source for Watched<'a, 's, R, S> {
+impl<'a, 's, R: Eprint + Clock, S: Source> Source for ReportedSource<'a, 's, R, S> {
     ghost use Rattle.std.specs.Prelude.{None};
 
     ghost remaining = { λ _. None };

@@ -1,10 +1,10 @@
-//! Logs of drivers.
+//! `vmbind replay`: replays a driver's log as report, script or picture.
 ghost use Rattle.gv_program.specs.Status.{IsStatus};
 
-use crate::fault::{ProgramFault, told_of};
+use crate::fault::{ProgramFault, print_unless_closed};
 use crate::files::{address, opened};
 use crate::log_drawing::draw_log;
-use crate::progress::Onlooker;
+use crate::progress::ProgressReporter;
 use crate::status::DONE;
 use crate::words::{CompareWords, ReplayWords};
 use gv_draw::Options;
@@ -37,10 +37,10 @@ pub fn replay<R: AllocGlobal + Eprint + Clock, T: Files, S: Source, K: Sink + Pi
 ) -> u8
     ensures { IsStatus result }
 {
-    let onlooker = Onlooker::new(rt, is_terminal && !asked.quiet);
-    match replayed(rt.alloc(), files, &onlooker, &asked, reader, writer) {
+    let reporter = ProgressReporter::new(rt, is_terminal && !asked.quiet);
+    match replayed(rt.alloc(), files, &reporter, &asked, reader, writer) {
         Ok(()) => DONE,
-        Err(fault) => told_of(rt, writer, fault),
+        Err(fault) => print_unless_closed(rt, writer, fault),
     }
 }
 
@@ -48,7 +48,7 @@ pub fn replay<R: AllocGlobal + Eprint + Clock, T: Files, S: Source, K: Sink + Pi
 fn replayed<R: Eprint + Clock, T: Files, S: Source, K: Sink>(
     alloc: Global,
     files: &T,
-    onlooker: &Onlooker<'_, R>,
+    reporter: &ProgressReporter<'_, R>,
     asked: &ReplayWords<'_>,
     reader: &mut S,
     writer: &mut K,
@@ -65,7 +65,7 @@ fn replayed<R: Eprint + Clock, T: Files, S: Source, K: Sink>(
     };
     let telling = Telling {
         alloc,
-        onlooker,
+        reporter,
         picture: picture_of(asked, format, log.addresses.as_slice()),
     };
     match asked.file {
@@ -78,7 +78,7 @@ fn replayed<R: Eprint + Clock, T: Files, S: Source, K: Sink>(
 pub fn list_log<R: Eprint + Clock, T: Files, K: Sink>(
     alloc: Global,
     files: &T,
-    onlooker: &Onlooker<'_, R>,
+    reporter: &ProgressReporter<'_, R>,
     asked: &CompareWords<'_>,
     format: &str,
     writer: &mut K,
@@ -94,7 +94,7 @@ pub fn list_log<R: Eprint + Clock, T: Files, K: Sink>(
     };
     let telling = Telling {
         alloc,
-        onlooker,
+        reporter,
         picture: None,
     };
     telling.tell_file(files, asked.second, &log.terms(), writer)
@@ -143,7 +143,7 @@ fn kept(alloc: Global, name: Option<&str>) -> Result<Option<String>, ProgramFaul
 #[derive(Drop)]
 struct Telling<'a, 'r, R> {
     alloc: Global,
-    onlooker: &'a Onlooker<'r, R>,
+    reporter: &'a ProgressReporter<'r, R>,
     picture: Option<Options>,
 }
 
@@ -157,7 +157,7 @@ impl<'a, 'r, R: Eprint + Clock> Telling<'a, 'r, R> {
         writer: &mut K,
     ) -> Result<(), ProgramFault> {
         let mut log = opened(files, path)?;
-        let of = self.onlooker.len_of(files, path);
+        let of = self.reporter.len_if_shown(files, path);
         if !terms.format.wants_sizes() {
             return self.tell(&mut log, of, writer, terms);
         }
@@ -177,7 +177,7 @@ impl<'a, 'r, R: Eprint + Clock> Telling<'a, 'r, R> {
         if !terms.format.wants_sizes() {
             return self.tell(reader, None, writer, terms);
         }
-        let log = self.onlooker.read_all(self.alloc, reader, None)?;
+        let log = self.reporter.read_all(self.alloc, reader, None)?;
         let of = Some(log.len() as u64);
         let sizes = self.measured(&mut MemorySource::new(&log), of, terms)?;
         let mut again = MemorySource::new(&log);
@@ -192,9 +192,9 @@ impl<'a, 'r, R: Eprint + Clock> Telling<'a, 'r, R> {
         of: Option<u64>,
         terms: &Terms<'_>,
     ) -> Result<Sizes, ProgramFault> {
-        let mut watched = self.onlooker.watch(log, of);
-        let sizes = measure(self.alloc, &mut watched, terms);
-        watched.finish();
+        let mut reported_source = self.reporter.reported(log, of);
+        let sizes = measure(self.alloc, &mut reported_source, terms);
+        reported_source.finish();
         Ok(sizes?)
     }
 
@@ -206,12 +206,12 @@ impl<'a, 'r, R: Eprint + Clock> Telling<'a, 'r, R> {
         writer: &mut K,
         terms: &Terms<'_>,
     ) -> Result<(), ProgramFault> {
-        let mut watched = self.onlooker.watch(log, of);
+        let mut reported_source = self.reporter.reported(log, of);
         let told = match &self.picture {
-            Some(options) => draw_log(self.alloc, &mut watched, writer, terms, options),
-            None => play(self.alloc, &mut watched, writer, terms),
+            Some(options) => draw_log(self.alloc, &mut reported_source, writer, terms, options),
+            None => play(self.alloc, &mut reported_source, writer, terms),
         };
-        watched.finish();
+        reported_source.finish();
         Ok(told?)
     }
 }

@@ -1,6 +1,6 @@
-//! The rows of the arguments.
+//! A row for each argument: its name, its help, its kind and its range.
 
-use crate::args::{Kind, Numbers, Row};
+use crate::args::{Argument, Kind, Numbers};
 use crate::help;
 
 /// The greatest number of queues.
@@ -16,31 +16,31 @@ pub const MAX_WIDTH: u64 = 16_384;
 const MAX_PID: u64 = 4_294_967_295;
 
 /// The file that is read instead of standard input.
-pub const FILE: Row = Row {
+pub const FILE: Argument = Argument {
     name: "file",
     help: help::FILE,
-    kind: Kind::Place("FILE"),
+    kind: Kind::Positional("FILE"),
     needed: false,
 };
 
 /// The first list of a comparison.
-pub const FIRST: Row = Row {
+pub const FIRST: Argument = Argument {
     name: "first",
     help: help::LIST,
-    kind: Kind::Place("A"),
+    kind: Kind::Positional("A"),
     needed: true,
 };
 
 /// The second list of a comparison.
-pub const SECOND: Row = Row {
+pub const SECOND: Argument = Argument {
     name: "second",
     help: help::LIST,
-    kind: Kind::Place("B"),
+    kind: Kind::Positional("B"),
     needed: true,
 };
 
 /// The number of queues.
-pub const QUEUES: Row = Row {
+pub const QUEUES: Argument = Argument {
     name: "queues",
     help: help::QUEUES,
     kind: Kind::Number(
@@ -55,7 +55,7 @@ pub const QUEUES: Row = Row {
 };
 
 /// After how many turns a request that waits is given up.
-pub const TURNS: Row = Row {
+pub const TURNS: Argument = Argument {
     name: "turns",
     help: help::TURNS,
     kind: Kind::Number(
@@ -70,7 +70,7 @@ pub const TURNS: Row = Row {
 };
 
 /// The format of a log.
-pub const FORMAT: Row = Row {
+pub const FORMAT: Argument = Argument {
     name: "format",
     help: help::FORMAT,
     kind: Kind::Text("FORMAT"),
@@ -78,7 +78,7 @@ pub const FORMAT: Row = Row {
 };
 
 /// The format of the second file, if it is a log.
-pub const LOG_FORMAT: Row = Row {
+pub const LOG_FORMAT: Argument = Argument {
     name: "format",
     help: help::LOG_FORMAT,
     kind: Kind::Text("FORMAT"),
@@ -86,7 +86,7 @@ pub const LOG_FORMAT: Row = Row {
 };
 
 /// Addresses whose past the report gives.
-pub const ADDRESSES: Row = Row {
+pub const ADDRESSES: Argument = Argument {
     name: "at",
     help: help::ADDRESSES,
     kind: Kind::Texts("ADDR"),
@@ -94,7 +94,7 @@ pub const ADDRESSES: Row = Row {
 };
 
 /// The address around which the picture is drawn.
-pub const AT: Row = Row {
+pub const AT: Argument = Argument {
     name: "at",
     help: help::AT,
     kind: Kind::Text("ADDR"),
@@ -102,7 +102,7 @@ pub const AT: Row = Row {
 };
 
 /// What the flags of a log mean.
-pub const FLAGS: Row = Row {
+pub const FLAGS: Argument = Argument {
     name: "flags",
     help: help::FLAGS,
     kind: Kind::Text("BITS"),
@@ -110,7 +110,7 @@ pub const FLAGS: Row = Row {
 };
 
 /// The process whose events, or whose address space, a report takes.
-pub const PID: Row = Row {
+pub const PID: Argument = Argument {
     name: "pid",
     help: help::PID,
     kind: Kind::Number(
@@ -125,7 +125,7 @@ pub const PID: Row = Row {
 };
 
 /// The address space that a report or a comparison takes.
-pub const SPACE: Row = Row {
+pub const SPACE: Argument = Argument {
     name: "space",
     help: help::SPACE,
     kind: Kind::Text("NAME"),
@@ -133,7 +133,7 @@ pub const SPACE: Row = Row {
 };
 
 /// The width of a picture.
-pub const WIDTH: Row = Row {
+pub const WIDTH: Argument = Argument {
     name: "width",
     help: help::WIDTH,
     kind: Kind::Number(
@@ -148,7 +148,7 @@ pub const WIDTH: Row = Row {
 };
 
 /// No progress is shown.
-pub const QUIET: Row = Row {
+pub const QUIET: Argument = Argument {
     name: "quiet",
     help: help::QUIET,
     kind: Kind::Flag,
@@ -156,7 +156,7 @@ pub const QUIET: Row = Row {
 };
 
 /// The program says why a line is bad.
-pub const EXPLAIN: Row = Row {
+pub const EXPLAIN: Argument = Argument {
     name: "explain",
     help: help::EXPLAIN,
     kind: Kind::Flag,
@@ -164,7 +164,7 @@ pub const EXPLAIN: Row = Row {
 };
 
 /// Replies are JSON.
-pub const JSON: Row = Row {
+pub const JSON: Argument = Argument {
     name: "json",
     help: help::JSON,
     kind: Kind::Flag,
@@ -172,7 +172,7 @@ pub const JSON: Row = Row {
 };
 
 /// The report is JSON.
-pub const AS_JSON: Row = Row {
+pub const AS_JSON: Argument = Argument {
     name: "json",
     help: help::AS_JSON,
     kind: Kind::Flag,
@@ -180,7 +180,7 @@ pub const AS_JSON: Row = Row {
 };
 
 /// A script is written instead of the report.
-pub const AS_SCRIPT: Row = Row {
+pub const AS_SCRIPT: Argument = Argument {
     name: "script",
     help: help::AS_SCRIPT,
     kind: Kind::Flag,
@@ -188,7 +188,7 @@ pub const AS_SCRIPT: Row = Row {
 };
 
 /// A picture is written instead of the report.
-pub const AS_PICTURE: Row = Row {
+pub const AS_PICTURE: Argument = Argument {
     name: "draw",
     help: help::AS_PICTURE,
     kind: Kind::Flag,
@@ -196,7 +196,7 @@ pub const AS_PICTURE: Row = Row {
 };
 
 /// The report has all places of a finding.
-pub const ALL: Row = Row {
+pub const ALL: Argument = Argument {
     name: "all",
     help: help::ALL,
     kind: Kind::Flag,

@@ -1,10 +1,10 @@
-//! Dialogues.
+//! `vmbind serve`: holds a dialogue.
 ghost use Rattle.std.specs.Prelude.{◌≡◌, false, Result};
 ghost use Rattle.gv_serve.specs.declared.fault.ServeFault.{ServeFault as TheFault};
 ghost use Rattle.gv_program.specs.Serving.{HasServed, serve_status};
 ghost use Rattle.gv_program.specs.Status.{IsStatus};
 
-use crate::fault::{ProgramFault, told, told_of};
+use crate::fault::{ProgramFault, print_fault, print_unless_closed};
 use crate::files::opened;
 use crate::status::DONE;
 use gv_serve::{ServeFault, serve as hold, serve_json};
@@ -37,7 +37,7 @@ fn ended<R: Eprint, K: Pipe>(rt: &R, writer: &K, outcome: Result<(), ServeFault>
 {
     match outcome {
         Ok(()) => DONE,
-        Err(fault) => told_of(rt, writer, ProgramFault::from(fault)),
+        Err(fault) => print_unless_closed(rt, writer, ProgramFault::from(fault)),
     }
 }
 
@@ -53,6 +53,6 @@ pub fn serve_file<R: AllocGlobal + Eprint, T: Files, K: Sink + Pipe>(
 {
     match opened(files, path) {
         Ok(mut reader) => serve(rt, json, &mut reader, writer),
-        Err(fault) => told(rt, fault),
+        Err(fault) => print_fault(rt, fault),
     }
 }

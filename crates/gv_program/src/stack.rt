@@ -1,4 +1,4 @@
-//! The program's stack is there before the arguments are read.
+//! Touches the stack at the start, so that it need not grow later.
 
 /// How many bytes of stack the program touches first: more than it needs. Tables are passed by value, in frames of a table's size
 /// each: a table that is freed, and one that the system has no memory for. A line of a script takes less than 64 KiB, a replay some

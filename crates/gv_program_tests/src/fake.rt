@@ -25,9 +25,9 @@ impl Read for Stream<'_> {
             return Err(io::Error::from(ErrorKind::Other));
         }
         let count = self.rest.len().min(buf.len());
-        let (given, left) = self.rest.split_at(count);
+        let (given, remaining) = self.rest.split_at(count);
         buf[..count].copy_from_slice(given);
-        self.rest = left;
+        self.rest = remaining;
         Ok(count)
     }
 }

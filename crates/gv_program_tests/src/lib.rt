@@ -10,7 +10,7 @@ mod forms;
 #[cfg(test)]
 mod helps;
 #[cfg(test)]
-mod telling;
+mod progress;
 #[cfg(test)]
 mod threads;
 #[cfg(test)]

@@ -4,6 +4,6 @@ pub mod QueueEnds
 pub mod Putting
 pub mod PutLemmas
 pub mod Channels
-pub mod Same
-pub mod Outcomes
-pub mod Sends
+pub mod DerivedEquality
+pub mod OutcomeEquality
+pub mod LockIsSync

@@ -3,7 +3,7 @@ pub mod Submitting
 pub mod Taking
 pub mod Paying
 pub mod Working
-pub mod Sharing
+pub mod SeatSplits
 pub mod Ending
 pub mod Counts
 pub mod Driving

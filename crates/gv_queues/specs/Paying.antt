@@ -6,7 +6,7 @@ use Rattle.gv_types.specs.declared.request.Request.{Request}
 use Rattle.gv_sync.specs.Raises.{raised, values_on}
 use Rattle.gv_sync.specs.Seats.{SeatState, mark_of}
 use Rattle.gv_sync.specs.Sights.{Sight}
-use Rattle.gv_sync.specs.Turns.{HasRaised}
+use Rattle.gv_sync.specs.SeatSteps.{HasRaised}
 use Rattle.gv_journal.specs.declared.item.ItemKind.{ItemKind}
 use Rattle.gv_journal.specs.declared.item.ItemKind.TheVariants.{Bind, Withdrawal}
 use Rattle.gv_vm.specs.declared.outcome.Outcome.{Outcome}

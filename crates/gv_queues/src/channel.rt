@@ -2,10 +2,10 @@
 ghost use Rattle.std.specs.Prelude.{◌≡◌, ◌<◌, ℕ, [], IfOk};
 ghost use Rattle.crossbeam_channel.specs.Claims.{view, IsSeatAt};
 ghost use Rattle.crossbeam_channel.specs.Ends.{sends_on, receives_on, ruled_capacity};
-ghost use Rattle.gv_queues.specs.Handover.{about_queue, submitter_log, worker_log};
-ghost use Rattle.gv_queues.specs.declared.log.About.{About};
+ghost use Rattle.gv_queues.specs.Handover.{about_queue, submitter_pass, worker_pass};
+ghost use Rattle.gv_queues.specs.declared.pass_knowledge.About.{About};
 
-use crate::log::Log;
+use crate::pass_knowledge::PassKnowledge;
 use crossbeam_channel::protocol::{Lesson, Outcome, Protocol, Split};
 use crossbeam_channel::{Pass, RuledReceiver, RuledSender, bounded_with};
 use gv_types::Request;
@@ -15,20 +15,20 @@ use std::marker::Brand;
 /// What was put is what was taken, and after that what the channel holds.
 pub struct InOrder;
 
-impl Protocol<Request, Log> for InOrder {
-    ghost use Rattle.gv_queues.specs.Handover.{TakenThenHeld, opening_log};
+impl Protocol<Request, PassKnowledge> for InOrder {
+    ghost use Rattle.gv_queues.specs.Handover.{TakenThenHeld, opening_pass};
 
     ghost holds = { TakenThenHeld };
 
-    ghost first = { opening_log };
+    ghost first = { opening_pass };
 }
 
 /// Which queue a channel is of, and for how many timelines. The call that opens the channel picks it.
-pub trait Bound {
+pub trait BoundToQueue {
     ghost about: { About };
 }
 
-impl Bound for Brand {
+impl BoundToQueue for Brand {
     ghost use Rattle.gv_queues.specs.Handover.{about_queue};
 
     ghost about = { about_queue 0 0 };
@@ -39,25 +39,25 @@ struct Roles<B> {
     of: std::marker::PhantomData<B>,
 }
 
-impl<B: Bound> Split<Log> for Roles<B> {
+impl<B: BoundToQueue> Split<PassKnowledge> for Roles<B> {
     ghost use Rattle.std.specs.Prelude.{[]};
-    ghost use Rattle.gv_queues.specs.Handover.{submitter_log, worker_log};
+    ghost use Rattle.gv_queues.specs.Handover.{submitter_pass, worker_pass};
 
-    ghost left = { λ v. submitter_log B.about [] };
+    ghost left = { λ v. submitter_pass B.about [] };
 
-    ghost right = { λ v. worker_log B.about [] };
+    ghost right = { λ v. worker_pass B.about [] };
 }
 
 /// What a put shows.
 pub struct Puts;
 
-impl Outcome<Request, Log> for Puts {
+impl Outcome<Request, PassKnowledge> for Puts {
     ghost use Rattle.gv_queues.specs.Handover.{Put};
 
     ghost then = { Put };
 }
 
-impl Lesson<Request, Log> for Puts {
+impl Lesson<Request, PassKnowledge> for Puts {
     ghost use Rattle.gv_queues.specs.Handover.{HoldsLast};
 
     ghost fact = { HoldsLast };
@@ -66,21 +66,21 @@ impl Lesson<Request, Log> for Puts {
 /// What a take shows.
 pub struct Takes;
 
-impl Outcome<Request, Log> for Takes {
+impl Outcome<Request, PassKnowledge> for Takes {
     ghost use Rattle.gv_queues.specs.Handover.{Took};
 
     ghost then = { Took };
 }
 
-impl Lesson<Request, Log> for Takes {
+impl Lesson<Request, PassKnowledge> for Takes {
     ghost fact = { λ v items. Unit {0} };
 }
 
-pub type Sends = RuledSender<Request, Log, InOrder>;
+pub type Sends = RuledSender<Request, PassKnowledge, InOrder>;
 
-pub type Receives = RuledReceiver<Request, Log, InOrder>;
+pub type Receives = RuledReceiver<Request, PassKnowledge, InOrder>;
 
-pub type QueuePass = Pass<Request, Log>;
+pub type QueuePass = Pass<Request, PassKnowledge>;
 
 /// Both ends of a new channel, each with its pass.
 #[derive(Drop)]
@@ -91,7 +91,7 @@ pub struct Ends {
     pub takes: QueuePass,
 }
 
-fn open_branded<B: Bound>(
+fn open_branded<B: BoundToQueue>(
     alloc: Global,
     depth: usize,
     queue: u64,
@@ -101,9 +101,9 @@ fn open_branded<B: Bound>(
     requires about { about_queue queue timelines ≡ B.about }
     ensures depth { IfOk result (λ e. ruled_capacity (sends_on e.sends) ≡ depth) }
     ensures puts { IfOk result (λ e. IsSeatAt (sends_on e.sends) e.puts
-        × (view e.puts ≡ submitter_log (about_queue queue timelines) [])) }
+        × (view e.puts ≡ submitter_pass (about_queue queue timelines) [])) }
     ensures takes { IfOk result (λ e. IsSeatAt (receives_on e.receives) e.takes
-        × (view e.takes ≡ worker_log (about_queue queue timelines) [])) }
+        × (view e.takes ≡ worker_pass (about_queue queue timelines) [])) }
     ensures one { IfOk result (λ e. e.takes.table_id ≡ e.puts.table_id) }
 {
     let (sends, receives, mut puts) = bounded_with(alloc, depth)?;
@@ -121,9 +121,9 @@ pub fn open(alloc: Global, depth: usize, queue: u64, timelines: u64) -> Result<E
     requires { 0 < depth }
     ensures depth { IfOk result (λ e. ruled_capacity (sends_on e.sends) ≡ depth) }
     ensures puts { IfOk result (λ e. IsSeatAt (sends_on e.sends) e.puts
-        × (view e.puts ≡ submitter_log (about_queue queue timelines) [])) }
+        × (view e.puts ≡ submitter_pass (about_queue queue timelines) [])) }
     ensures takes { IfOk result (λ e. IsSeatAt (receives_on e.receives) e.takes
-        × (view e.takes ≡ worker_log (about_queue queue timelines) [])) }
+        × (view e.takes ≡ worker_pass (about_queue queue timelines) [])) }
     ensures one { IfOk result (λ e. e.takes.table_id ≡ e.puts.table_id) }
 {
     open_branded::<Brand>(alloc, depth, queue, timelines)

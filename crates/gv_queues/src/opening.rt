@@ -5,7 +5,7 @@ ghost use Rattle.gv_sync.specs.Seats.{IsSeatOf, timeline_count};
 ghost use Rattle.gv_types.specs.Limits.{IsFromOneTo};
 ghost use Rattle.gv_vm.specs.Outcomes.{queues};
 ghost use Rattle.gv_queues.specs.Ending.{AreInOrder, AreOnOwnChannels};
-ghost use Rattle.gv_queues.specs.Sharing.{HaveSplits, TookNoStep, after_splits};
+ghost use Rattle.gv_queues.specs.SeatSplits.{HaveSplits, TookNoStep, after_splits};
 ghost use Rattle.gv_queues.specs.Submitting.{AreOpened, most_places};
 
 use crate::channel::{Ends, open};
@@ -37,7 +37,7 @@ pub struct Opened {
 
 /// How many queues there are, how many places each has, and how many requests may be put on it.
 #[derive(Clone, Copy)]
-pub struct Sizes {
+pub struct QueueSizes {
     pub count: u64,
     pub depth: usize,
     pub limit: u64,
@@ -67,7 +67,7 @@ pub fn open_all(
     alloc: Global,
     timelines: &Timelines,
     seat: &mut Seat,
-    sizes: Sizes,
+    sizes: QueueSizes,
 ) -> Result<Opened, QueuesFault>
     requires own { IsSeatOf timelines.now seat.old }
     requires count { sizes.count ≤ queues }
@@ -84,7 +84,7 @@ pub fn open_all(
     ensures even { IfOk result (λ o. (vec_len o.workers ≡ sizes.count) × (vec_len o.submitters ≡ sizes.count)) }
     ensures fault { IfErr result (λ fault. fault ≡ QueuesFault.NotMade) }
 {
-    let Sizes {
+    let QueueSizes {
         count,
         depth,
         limit,

@@ -1,7 +1,7 @@
 //! What is left of a submitter when its queue is closed.
 ghost use Rattle.std.specs.Prelude.{◌≡◌, length};
 ghost use Rattle.crossbeam_channel.specs.Claims.{view};
-ghost use Rattle.gv_queues.specs.Handover.{about_queue, submitter_log};
+ghost use Rattle.gv_queues.specs.Handover.{about_queue, submitter_pass};
 
 use crate::channel::QueuePass;
 use std::marker::Model;
@@ -16,8 +16,8 @@ pub struct PutEnd {
 
 impl Model for PutEnd {
     ghost use Rattle.std.specs.Prelude.{◌≡◌, length};
-    ghost use Rattle.crossbeam_channel.specs.Claims.{view as log_of};
-    ghost use Rattle.gv_queues.specs.Handover.{about_queue, submitter_log};
+    ghost use Rattle.crossbeam_channel.specs.Claims.{view as known_to};
+    ghost use Rattle.gv_queues.specs.Handover.{about_queue, submitter_pass};
     ghost use Rattle.gv_queues.specs.Submitting.{PutEndState};
 
     ghost Value = { PutEndState };
@@ -25,17 +25,17 @@ impl Model for PutEnd {
     ghost view = { λ e. record {
       queue = e.queue;
       channel = record { table = e.pass.table_id; queue = e.queue };
-      put = (log_of e.pass).put;
+      put = (known_to e.pass).put;
     } };
 
     ghost invariant = { λ e.
-        (log_of e.pass ≡ submitter_log (about_queue e.queue (log_of e.pass).about.timelines) (log_of e.pass).put)
-        × (e.put ≡ length (log_of e.pass).put) };
+        (known_to e.pass ≡ submitter_pass (about_queue e.queue (known_to e.pass).about.timelines) (known_to e.pass).put)
+        × (e.put ≡ length (known_to e.pass).put) };
 }
 
 impl PutEnd {
     pub(crate) fn new(pass: QueuePass, queue: u64, put: u64) -> PutEnd
-        requires pass { view pass ≡ submitter_log (about_queue queue (view pass).about.timelines) (view pass).put }
+        requires pass { view pass ≡ submitter_pass (about_queue queue (view pass).about.timelines) (view pass).put }
         requires put { put ≡ length (view pass).put }
         ensures { result ≡ record {
           queue = queue;

@@ -5,14 +5,14 @@ ghost use Rattle.gv_types.specs.Limits.{IsFromOneTo};
 ghost use Rattle.gv_vm.specs.Outcomes.{queues};
 ghost use Rattle.gv_vm.specs.State.{IsVm};
 ghost use Rattle.gv_queues.specs.Ending.{AreCountedEnds, HasNotRun, IsOfQueueBelow, IsUntold};
-ghost use Rattle.gv_queues.specs.Sharing.{ComesBack};
+ghost use Rattle.gv_queues.specs.SeatSplits.{ComesBack};
 ghost use Rattle.gv_queues.specs.Submitting.{most_places};
 
 use crate::driver::Driver;
 use crate::finishing::{QueueEnd, QueuesFault, finish};
 use crate::gate::Gate;
-use crate::opening::{Sizes, make_rooms, open_all};
-use crate::running::{Around, Made};
+use crate::opening::{QueueSizes, make_rooms, open_all};
+use crate::running::{ReadyQueues, RunContext};
 use crate::vm_lock::VmLock;
 use gv_sync::{Seat, Timelines};
 use gv_vm::Vm;
@@ -68,7 +68,7 @@ impl<G: Gate + Sync> Queues<'_, G> {
         let Ok(ends) = Vec::with_capacity(alloc, self.count as usize) else {
             return (vm, Err(QueuesFault::NotMade));
         };
-        let sizes = Sizes {
+        let sizes = QueueSizes {
             count: self.count,
             depth: self.depth,
             limit: vm.limits().told(),
@@ -77,12 +77,12 @@ impl<G: Gate + Sync> Queues<'_, G> {
             return (vm, Err(QueuesFault::NotMade));
         };
         let lock = VmLock::new(vm);
-        let around = Around {
+        let around = RunContext {
             lock: &lock,
             timelines: self.timelines,
             gate: self.gate,
         };
-        let ran = Made { opened, rooms }.run_workers(rt, alloc, around, driver, seat);
+        let ran = ReadyQueues { opened, rooms }.run_workers(rt, alloc, around, driver, seat);
         let vm = lock.into_inner();
         // For the prover: what always holds of the machine.
         let _space = vm.space();

@@ -77,13 +77,13 @@ struct Started {
 /// What workers and their driver share: the lock of the address space, the timelines, and what workers ask while they
 /// wait.
 #[derive(Drop)]
-pub struct Around<'a, L, G> {
+pub struct RunContext<'a, L, G> {
     pub lock: &'a L,
     pub timelines: &'a Timelines,
     pub gate: &'a G,
 }
 
-impl<'s, L: Locked + Sync, G: Gate + Sync> Around<'s, L, G> {
+impl<'s, L: Locked + Sync, G: Gate + Sync> RunContext<'s, L, G> {
     /// Starts a worker on a thread of its own.
     fn start<E, R: Wait + Sync>(
         &self,
@@ -179,19 +179,19 @@ impl<'s, L: Locked + Sync, G: Gate + Sync> Around<'s, L, G> {
 
 /// All that queues need to run.
 #[derive(Drop)]
-pub struct Made {
+pub struct ReadyQueues {
     pub opened: Opened,
     pub rooms: Rooms,
 }
 
-impl Made {
+impl ReadyQueues {
     /// Starts all workers, runs the driver, closes the queues and joins the workers. If a worker isn't started, the
     /// driver doesn't run.
     pub fn run_workers<L: Locked + Sync, G: Gate + Sync, D: Driver, R: Threads + Wait + Sync>(
         self,
         rt: &R,
         alloc: Global,
-        around: Around<'_, L, G>,
+        around: RunContext<'_, L, G>,
         driver: &mut D,
         seat: &mut Seat,
     ) -> Ran
@@ -219,7 +219,7 @@ impl Made {
         ensures refused { IfSome result.refused (λ queue. (queue < vec_len self.opened.submitters)
             × (driver.new ≡ driver.old) × (seat.new ≡ seat.old)) }
     {
-        let Made { opened, rooms } = self;
+        let ReadyQueues { opened, rooms } = self;
         let (again, lent, ran) = thread::scope(
             thread::scope_env(),
             rt,

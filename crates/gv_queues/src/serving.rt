@@ -3,7 +3,7 @@ ghost use Rattle.std.specs.Prelude.{◌≡◌, ◌<◌, Contains, IfOk, IfErr, O
 ghost use Rattle.std.specs.List.{All};
 ghost use Rattle.gv_types.specs.Request.{Fits as FitsTimelines};
 ghost use Rattle.gv_sync.specs.Seats.{IsSeatOf, timeline_count};
-ghost use Rattle.gv_sync.specs.Turns.{HasRaised};
+ghost use Rattle.gv_sync.specs.SeatSteps.{HasRaised};
 ghost use Rattle.gv_vm.specs.Outcomes.{tell_fault, with_outcome};
 ghost use Rattle.gv_vm.specs.State.{told_limit};
 ghost use Rattle.gv_vm.specs.BindOutcome.{IsBoundAndTold, seen_by};
@@ -23,7 +23,7 @@ fn pay(timelines: &Timelines, seat: &mut Seat, signals: &[Point])
     ensures own { IsSeatOf timelines.now seat.new }
     ensures paid { HasRaised signals.now seat.old seat.new }
 {
-    laws::turns();
+    laws::seat_raises();
     seat.has_each_mark();
     for signal in signals {
         timelines.raise(seat, *signal);

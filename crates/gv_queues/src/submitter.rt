@@ -4,7 +4,7 @@ ghost use Rattle.crossbeam_channel.specs.Claims.{view, IsSeatAt};
 ghost use Rattle.crossbeam_channel.specs.Ends.{sends_on, ruled_capacity};
 ghost use Rattle.gv_types.specs.Request.{Fits as FitsTimelines};
 ghost use Rattle.gv_vm.specs.Outcomes.{queues};
-ghost use Rattle.gv_queues.specs.Handover.{about_queue, submitter_log};
+ghost use Rattle.gv_queues.specs.Handover.{about_queue, submitter_pass};
 ghost use Rattle.gv_queues.specs.Submitting.{MayBeFull, put_end_of};
 
 use crate::channel::{Puts, QueuePass, Sends};
@@ -34,10 +34,10 @@ pub struct Submitter {
 
 impl Model for Submitter {
     ghost use Rattle.std.specs.Prelude.{◌≡◌, ◌<◌, ◌≤◌, length};
-    ghost use Rattle.crossbeam_channel.specs.Claims.{view as log_of, IsSeatAt};
+    ghost use Rattle.crossbeam_channel.specs.Claims.{view as known_to, IsSeatAt};
     ghost use Rattle.crossbeam_channel.specs.Ends.{sends_on, ruled_capacity};
     ghost use Rattle.gv_vm.specs.Outcomes.{queues};
-    ghost use Rattle.gv_queues.specs.Handover.{about_queue, submitter_log};
+    ghost use Rattle.gv_queues.specs.Handover.{about_queue, submitter_pass};
     ghost use Rattle.gv_queues.specs.Submitting.{SubmitterState};
 
     ghost Value = { SubmitterState };
@@ -48,13 +48,13 @@ impl Model for Submitter {
       limit = s.limit;
       depth = ruled_capacity (sends_on s.sends);
       timelines = s.timelines;
-      put = (log_of s.pass).put;
+      put = (known_to s.pass).put;
     } };
 
     ghost invariant = { λ s.
         IsSeatAt (sends_on s.sends) s.pass
-        × (log_of s.pass ≡ submitter_log (about_queue s.queue s.timelines) (log_of s.pass).put)
-        × (s.count ≡ length (log_of s.pass).put)
+        × (known_to s.pass ≡ submitter_pass (about_queue s.queue s.timelines) (known_to s.pass).put)
+        × (s.count ≡ length (known_to s.pass).put)
         × (s.count ≤ s.limit)
         × (s.queue < queues) };
 }
@@ -63,7 +63,7 @@ impl Submitter {
     /// A submitter of a channel on which nothing was put.
     pub fn new(sends: Sends, pass: QueuePass, queue: u64, limit: u64, timelines: u64) -> Submitter
         requires seat { IsSeatAt (sends_on sends) pass }
-        requires none { view pass ≡ submitter_log (about_queue queue timelines) [] }
+        requires none { view pass ≡ submitter_pass (about_queue queue timelines) [] }
         requires queue { queue < queues }
         ensures { result ≡ record {
           queue = queue;

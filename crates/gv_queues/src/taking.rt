@@ -3,7 +3,7 @@ ghost use Rattle.std.specs.Prelude.{◌≡◌, ◌<◌, [], length, IfSome, IfNo
 ghost use Rattle.crossbeam_channel.specs.Claims.{view, IsSeatAt};
 ghost use Rattle.crossbeam_channel.specs.Ends.{receives_on};
 ghost use Rattle.gv_vm.specs.Outcomes.{queues};
-ghost use Rattle.gv_queues.specs.Handover.{about_queue, worker_log};
+ghost use Rattle.gv_queues.specs.Handover.{about_queue, worker_pass};
 ghost use Rattle.gv_queues.specs.Taking.{IsTakenFrom};
 
 use crate::channel::{QueuePass, Receives, Takes};
@@ -21,10 +21,10 @@ pub struct Taker {
 
 impl Model for Taker {
     ghost use Rattle.std.specs.Prelude.{◌≡◌, ◌<◌};
-    ghost use Rattle.crossbeam_channel.specs.Claims.{view as log_of, IsSeatAt};
+    ghost use Rattle.crossbeam_channel.specs.Claims.{view as known_to, IsSeatAt};
     ghost use Rattle.crossbeam_channel.specs.Ends.{receives_on};
     ghost use Rattle.gv_vm.specs.Outcomes.{queues};
-    ghost use Rattle.gv_queues.specs.Handover.{about_queue, worker_log};
+    ghost use Rattle.gv_queues.specs.Handover.{about_queue, worker_pass};
     ghost use Rattle.gv_queues.specs.Taking.{TakerState};
 
     ghost Value = { TakerState };
@@ -32,13 +32,13 @@ impl Model for Taker {
     ghost view = { λ t. record {
       queue = t.queue;
       channel = record { table = t.pass.table_id; queue = t.queue };
-      timelines = (log_of t.pass).about.timelines;
-      taken = (log_of t.pass).taken;
+      timelines = (known_to t.pass).about.timelines;
+      taken = (known_to t.pass).taken;
     } };
 
     ghost invariant = { λ t.
         IsSeatAt (receives_on t.receives) t.pass
-        × (log_of t.pass ≡ worker_log (about_queue t.queue (log_of t.pass).about.timelines) (log_of t.pass).taken)
+        × (known_to t.pass ≡ worker_pass (about_queue t.queue (known_to t.pass).about.timelines) (known_to t.pass).taken)
         × (t.queue < queues) };
 }
 
@@ -46,7 +46,7 @@ impl Taker {
     /// A taker of a channel from which nothing was taken.
     pub fn new(receives: Receives, pass: QueuePass, queue: u64) -> Taker
         requires seat { IsSeatAt (receives_on receives) pass }
-        requires none { view pass ≡ worker_log (about_queue queue (view pass).about.timelines) [] }
+        requires none { view pass ≡ worker_pass (about_queue queue (view pass).about.timelines) [] }
         requires queue { queue < queues }
         ensures { result ≡ record {
           queue = queue;

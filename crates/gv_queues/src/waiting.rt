@@ -2,7 +2,7 @@
 ghost use Rattle.std.specs.Prelude.{◌≡◌, ◌<◌, ◌≤◌, [], length, vec_capacity, Contains, IfOk, IfErr, OnOk};
 ghost use Rattle.std.specs.List.{All};
 ghost use Rattle.gv_sync.specs.Seats.{IsSeatOf, timeline_count, mark_of};
-ghost use Rattle.gv_sync.specs.Turns.{HasLooked};
+ghost use Rattle.gv_sync.specs.SeatSteps.{HasLooked};
 ghost use Rattle.gv_queues.specs.Paying.{AreReached, IsFirstLacking};
 
 use crate::gate::{Gate, Turn};

@@ -64,7 +64,7 @@ impl WorkerEnd {
     }
 
     /// How many requests the worker took.
-    pub fn put(&self) -> u64
+    pub fn taken_count(&self) -> u64
         ensures { result ≡ length self.now.taken }
     {
         self.gave.len() as u64 + self.left.len() as u64
@@ -76,7 +76,7 @@ impl WorkerEnd {
         ensures { IsTrue result ↔ Agrees vm.now put.now self.now }
     {
         let queue = self.taker.queue();
-        if self.put() != put.put() || self.gave.len() as u64 != vm.told_next(queue) {
+        if self.taken_count() != put.put() || self.gave.len() as u64 != vm.told_next(queue) {
             return false;
         }
         let first = vm.told_from(queue) as usize;

@@ -13,7 +13,7 @@ use Rattle.gv_types.specs.declared.mapping.Mapping.{Mapping}
 use Rattle.gv_ranges.specs.List.{IsLaidOut, IsLaidOutFrom}
 use Rattle.gv_ranges.specs.Edit.{clipped, replaced, LieIn}
 use Rattle.gv_ranges.proofs.ReplacedLemmas.{lies_in_bounds}
-use Rattle.gv_ranges.proofs.KeptLemmas.{clip_is_piece, All-clipped}
+use Rattle.gv_ranges.proofs.AllReplacedLemmas.{clip_is_piece, All-clipped}
 
 -- a backing's pages stay small further on
 small_pages_advanced : (b : Backing) (by count total : ℕ) → by + count ≤ total → HasSmallPages b total → HasSmallPages (advanced b by) count

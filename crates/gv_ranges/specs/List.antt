@@ -12,9 +12,9 @@ at [] page = None
 at (m ∷ ms) page = if covers m.range page then Some (part m page) else at ms page
 
 -- the first mapping that ends behind a page, if one does
-abbrev pub first_behind : List Mapping → ℕ → Option Mapping
-first_behind [] page = None
-first_behind (m ∷ ms) page = if nat_lt page (end_of m.range) then Some m else first_behind ms page
+abbrev pub first_ending_after : List Mapping → ℕ → Option Mapping
+first_ending_after [] page = None
+first_ending_after (m ∷ ms) page = if nat_lt page (end_of m.range) then Some m else first_ending_after ms page
 
 -- from the page `low` on, each mapping begins where the one before it ends, or later
 abbrev pub IsLaidOutFrom : ℕ → List Mapping → Type 0
@@ -39,11 +39,11 @@ pub record IsUnchangedList (old new : RangeListState) : Type 0 where
 abbrev pub run : List Mapping → ℕ → ℕ → List Mapping
 run ms index count = take count (drop index ms)
 
--- the last `left` of a list's first `end` mappings are still to come, and the block is of those, and of what is behind them
-pub record IsRunAhead (ms : List Mapping) (end left : ℕ) (block : List Mapping) : Type 0 where
+-- the last `unread` of a list's first `end` mappings are still to come, and the block is of those, and of what is behind them
+pub record IsRunAhead (ms : List Mapping) (end unread : ℕ) (block : List Mapping) : Type 0 where
   pub within : end ≤ length ms
-  pub begun : left ≤ end
-  pub ahead : block ≡ take (length block) (drop (end - left) ms)
+  pub begun : unread ≤ end
+  pub ahead : block ≡ take (length block) (drop (end - unread) ms)
 
 -- the block is of a list of `len` mappings that is in order: those from `base` on, as many as the block has
 pub record IsBlockOf (ms : List Mapping) (len base : ℕ) (block : List Mapping) : Type 0 where

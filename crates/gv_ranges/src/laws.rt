@@ -22,6 +22,6 @@ pub fn restores()
 {}
 
 /// The run that meets a range says all that the list says of the range's pages.
-pub fn meetings()
+pub fn overlaps()
     ensures { OverlappingRunSays }
 {}

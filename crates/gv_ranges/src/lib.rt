@@ -2,15 +2,15 @@
 #![tactic(auto)]
 
 mod chunk_search;
-mod cut;
 pub mod laws;
+mod overlap;
 mod range_list;
 mod reader;
 mod rest;
 mod run;
 mod search;
 
-pub use cut::Cut;
+pub use overlap::Overlap;
 pub use range_list::RangeList;
 pub use reader::Reader;
 pub use rest::{next_rest, prev_rest};

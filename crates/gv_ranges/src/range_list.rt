@@ -4,8 +4,8 @@ ghost use Rattle.std.specs.Prelude.{max, MatchOption, None, Some, OnOk, OnErr};
 ghost use Rattle.gv_types.specs.declared.mapping.Mapping.{Mapping};
 ghost use Rattle.gv_chunks.specs.declared.TheConstants.{CHUNK};
 
-use crate::chunk_search::{chunk_of_page, cut_in, entry_in, first_behind_of};
-use crate::cut::Cut;
+use crate::chunk_search::{chunk_of_page, entry_in, first_ending_after_of, overlap_in};
+use crate::overlap::Overlap;
 use crate::run::Run;
 use gv_chunks::{ChunkList, Spot};
 use gv_types::{Entry, OutOfMemory, Packed, PageRange, SPACE_PAGES};
@@ -31,7 +31,7 @@ impl Model for RangeList {
 
 impl RangeList {
     ghost use Rattle.std.specs.List.{splice};
-    ghost use Rattle.gv_ranges.specs.List.{at, first_behind, run, IsLaidOut, IsOverlappingRun, IsUnchangedList};
+    ghost use Rattle.gv_ranges.specs.List.{at, first_ending_after, run, IsLaidOut, IsOverlappingRun, IsUnchangedList};
 
     /// A list of no mapping, which takes no memory.
     pub fn new(alloc: Global) -> RangeList
@@ -136,29 +136,29 @@ impl RangeList {
     }
 
     /// The first mapping that ends behind a page: the one that holds it, or else the next one. One search.
-    pub fn first_behind(&self, page: u64) -> Option<&Packed>
-        ensures { MatchOption result (first_behind self.now.mappings page ≡ None)
-            (λ m. first_behind self.now.mappings page ≡ Some m.now) }
+    pub fn first_ending_after(&self, page: u64) -> Option<&Packed>
+        ensures { MatchOption result (first_ending_after self.now.mappings page ≡ None)
+            (λ m. first_ending_after self.now.mappings page ≡ Some m.now) }
     {
-        first_behind_of(self.list.chunks(), page)
+        first_ending_after_of(self.list.chunks(), page)
     }
 
     /// The block of memory in which a page lies, for the spot of an index that lies there too: the calls for it need not search then.
-    pub fn near(&self, page: u64) -> usize {
-        let standing = self.list.chunks();
-        if page >= SPACE_PAGES || standing.chunks.is_empty() {
+    pub fn hint(&self, page: u64) -> usize {
+        let used = self.list.chunks();
+        if page >= SPACE_PAGES || used.chunks.is_empty() {
             return 0;
         }
-        chunk_of_page(standing.chunks, standing.firsts, page)
+        chunk_of_page(used.chunks, used.firsts, page)
     }
 
     /// Where the range meets the list. One search, and a look at each of the mappings that meet it; the calls for the spot search no more.
     #[inline(always)]
-    pub fn cut(&self, range: PageRange) -> Cut<'_>
+    pub fn overlap(&self, range: PageRange) -> Overlap<'_>
         ensures run { IsOverlappingRun self.now.mappings range result.spot.index result.count }
         ensures block { result.block.now ≡ take (length result.block.now) (drop result.spot.index self.now.mappings) }
     {
-        cut_in(self.list.chunks(), range)
+        overlap_in(self.list.chunks(), range)
     }
 
     /// The index of the first mapping that meets the range, and how many mappings do. Where none
@@ -167,7 +167,7 @@ impl RangeList {
     pub fn overlapping(&self, range: PageRange) -> (usize, usize)
         ensures { IsOverlappingRun self.now.mappings range result.0 result.1 }
     {
-        let Cut { spot, count, .. } = self.cut(range);
+        let Overlap { spot, count, .. } = self.overlap(range);
         (spot.index, count)
     }
 

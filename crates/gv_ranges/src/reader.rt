@@ -53,7 +53,7 @@ impl<'a> Reader<'a> {
         ensures { result ≡ list.now.mappings }
     {
         let reader = Reader::from_base(list, index.saturating_sub(1));
-        if reader.is_near(index) {
+        if reader.holds_index(index) {
             reader
         } else {
             Reader::from_base(list, index)
@@ -76,16 +76,16 @@ impl<'a> Reader<'a> {
 
     /// Whether the block holds the index, or nothing does.
     #[inline(always)]
-    fn is_near(&self, index: usize) -> bool {
+    fn holds_index(&self, index: usize) -> bool {
         index.wrapping_sub(self.base) < self.block.len() || index == self.len
     }
 
     /// The same list, with the block looked up anew where it does not hold the index.
-    pub fn near(&self, index: usize) -> Reader<'a>
+    pub fn with_block_at(&self, index: usize) -> Reader<'a>
         requires { index ≤ length self.now }
         ensures { result ≡ self.now }
     {
-        if !self.is_near(index) {
+        if !self.holds_index(index) {
             if let Some(list) = self.list {
                 return Reader::of_list(list, index);
             }

@@ -1,4 +1,4 @@
-//! A run of a list, walked.
+//! An iterator over a run of the list.
 ghost use Rattle.std.specs.Prelude.{◌≡◌, ◌+◌, ◌<◌, ◌≤◌, length, take, drop};
 ghost use Rattle.std.specs.Iterator.{YieldsFirstRef, item_count};
 ghost use Rattle.gv_ranges.specs.List.{run};
@@ -9,12 +9,12 @@ use gv_types::Packed;
 use std::iter::FusedIterator;
 use std::marker::Model;
 
-/// The mappings of a run of a list that are left, one after another. It goes through the list block by block.
+/// The mappings of a run of a list that are unread, one after another. It goes through the list block by block.
 #[derive(Drop)]
 pub struct Run<'a> {
     list: &'a RangeList,
     end: usize,
-    left: usize,
+    unread: usize,
     // Those that come next, as far as they were looked up: they may go beyond the run.
     block: &'a [Packed],
 }
@@ -26,9 +26,9 @@ impl<'a> Model for Run<'a> {
 
     ghost Value = { List Mapping };
 
-    ghost view = { λ r. run r.list.now.mappings (r.end - r.left) r.left };
+    ghost view = { λ r. run r.list.now.mappings (r.end - r.unread) r.unread };
 
-    ghost invariant = { λ r. IsRunAhead r.list.now.mappings r.end r.left r.block.now };
+    ghost invariant = { λ r. IsRunAhead r.list.now.mappings r.end r.unread r.block.now };
 }
 
 impl<'a> Run<'a> {
@@ -42,7 +42,7 @@ impl<'a> Run<'a> {
         Run {
             list,
             end: index + count,
-            left: count,
+            unread: count,
             block: &[],
         }
     }
@@ -58,7 +58,7 @@ impl<'a> Run<'a> {
         Run {
             list,
             end: spot.index + count,
-            left: count,
+            unread: count,
             block: list.piece_at(spot),
         }
     }
@@ -86,23 +86,23 @@ impl<'a> Iterator for Run<'a> {
     ghost remaining = { item_count (λ rest. rest) };
 
     fn next(&mut self) -> Option<&'a Packed> {
-        if self.left == 0 {
+        if self.unread == 0 {
             return None;
         }
-        let block = block_at(self.list, self.end - self.left, self.block);
+        let block = block_at(self.list, self.end - self.unread, self.block);
         self.block = &block[1..];
-        self.left -= 1;
+        self.unread -= 1;
         Some(&block[0])
     }
 
     fn size_hint(&self) -> (usize, Option<usize>) {
-        (self.left, Some(self.left))
+        (self.unread, Some(self.unread))
     }
 }
 
 impl<'a> ExactSizeIterator for Run<'a> {
     fn len(&self) -> usize {
-        self.left
+        self.unread
     }
 }
 

@@ -1,9 +1,9 @@
-//! VMAs that a log binds and unbinds whole.
+//! Replays the events of xe and i915: VMAs that are bound and unbound whole.
 
+use crate::act::{Act, Cause, Moment};
 use crate::fault::ReplayFault;
-use crate::place::Place;
+use crate::occurrence::Occurrence;
 use crate::replaying::{Freed, Replay};
-use crate::row::{Act, Cause, Moment};
 use crate::watcher::Watcher;
 use gv_logs::{Vma, VmaEvent};
 use gv_types::{BufferId, Flags, Op, PAGE_BYTES, SPACE_PAGES};
@@ -32,8 +32,8 @@ impl Bound {
     }
 
     /// Whether its range is one mapping of its buffer.
-    fn is_whole(&self, replay: &Replay) -> bool {
-        replay.is_whole(&self.buffer, self.start, self.len)
+    fn is_one_mapping(&self, replay: &Replay) -> bool {
+        replay.is_one_mapping(&self.buffer, self.start, self.len)
     }
 
     /// It goes, for this reason. Mappings in its own range are none that still reach it.
@@ -127,7 +127,7 @@ impl Binder {
     ) -> Result<(), ReplayFault> {
         let (act, vma, buffer) = what;
         if !replay.map(alloc, act, watcher)? {
-            return replay.give_up(*buffer);
+            return replay.destroy_later(*buffer);
         }
         let bound = Bound {
             start: vma.start,
@@ -142,7 +142,7 @@ impl Binder {
     /// Whether a VMA stands at just its range.
     fn stands(&self, replay: &Replay, vma: &Vma) -> bool {
         match self.bound.get(&vma.pointer) {
-            Some(bound) => bound.is_at(vma) && bound.is_whole(replay),
+            Some(bound) => bound.is_at(vma) && bound.is_one_mapping(replay),
             None => false,
         }
     }
@@ -161,7 +161,7 @@ impl Binder {
             Some(bound) if bound.is_at(vma) => {
                 let act = unmap_of(moment, vma, Cause::Plain);
                 replay.unmap(alloc, &act, watcher)?;
-                replay.give_up(bound.buffer)
+                replay.destroy_later(bound.buffer)
             }
             Some(bound) => {
                 let act = unmap_of(moment, vma, Cause::Elsewhere);
@@ -169,8 +169,8 @@ impl Binder {
             }
             None => {
                 let act = unmap_of(moment, vma, Cause::OfUnknown);
-                replay.tally.of_nothing.add(Place::nothing(&act))?;
-                replay.go_on(alloc, &act, watcher)
+                replay.tally.of_nothing.add(Occurrence::nothing(&act))?;
+                replay.attempt(alloc, &act, watcher)
             }
         }
     }
@@ -189,15 +189,15 @@ impl Binder {
                 addr: 0,
                 len: SPACE_BYTES,
             };
-            replay.go_on(alloc, &Act { moment, op, cause }, watcher)?;
+            replay.attempt(alloc, &Act { moment, op, cause }, watcher)?;
         }
-        self.give_up_all(replay)
+        self.destroy_all_later(replay)
     }
 
     /// No VMA is bound any more.
-    fn give_up_all(&mut self, replay: &mut Replay) -> Result<(), ReplayFault> {
+    fn destroy_all_later(&mut self, replay: &mut Replay) -> Result<(), ReplayFault> {
         for bound in self.bound.values() {
-            replay.give_up(bound.buffer)?;
+            replay.destroy_later(bound.buffer)?;
         }
         self.bound.clear();
         Ok(())
@@ -221,11 +221,11 @@ fn unbind_elsewhere<V: Watcher>(
     watcher: &mut V,
 ) -> Result<(), ReplayFault> {
     let (act, bound) = what;
-    let place = Place::elsewhere(act, [bound.start, bound.len, bound.made_at]);
-    replay.tally.of_nothing.add(place)?;
+    let occurrence = Occurrence::elsewhere(act, [bound.start, bound.len, bound.made_at]);
+    replay.tally.of_nothing.add(occurrence)?;
     let freed = bound.gone(Cause::Elsewhere);
     replay.free(alloc, act.moment, &freed, watcher)?;
-    replay.go_on(alloc, act, watcher)
+    replay.attempt(alloc, act, watcher)
 }
 
 /// The map of a VMA to a buffer, from its byte 0 on.

@@ -1,10 +1,10 @@
 //! The report of a replay as JSON.
 
 use crate::alive::Alive;
-use crate::json_place::JsonWriter;
-use crate::outcome::Outcome;
+use crate::json_writer::JsonWriter;
+use crate::occurrence::Occurrence;
+use crate::outcome::ReplayOutcome;
 use crate::past::{Before, Past};
-use crate::place::Place;
 use crate::space_name::SpaceName;
 use crate::spaces::SpaceOutcome;
 use crate::tally::{FINDINGS, Finding, Tally};
@@ -79,7 +79,7 @@ fn write_name(writer: &mut JsonWriter, name: SpaceName) -> Result<(), AllocError
 }
 
 /// The members of an outcome.
-fn write_outcome(writer: &mut JsonWriter, outcome: &Outcome) -> Result<(), AllocError> {
+fn write_outcome(writer: &mut JsonWriter, outcome: &ReplayOutcome) -> Result<(), AllocError> {
     write_tally(writer, &outcome.tally)?;
     write_alive(writer, &outcome.alive)?;
     write_pasts(writer, &outcome.pasts)?;
@@ -109,18 +109,21 @@ fn write_findings(writer: &mut JsonWriter, tally: &Tally) -> Result<(), AllocErr
     Ok(())
 }
 
-/// A finding: its count, and its places.
+/// A finding: its count, and its occurrences.
 fn write_finding(writer: &mut JsonWriter, finding: &Finding) -> Result<(), AllocError> {
     writer.json.open_object()?;
     writer.json.number("count", finding.count())?;
-    write_places(writer, finding.places())?;
+    write_occurrences(writer, finding.occurrences())?;
     writer.json.close_object()
 }
 
-fn write_places(writer: &mut JsonWriter, places: &[Place]) -> Result<(), AllocError> {
+fn write_occurrences(
+    writer: &mut JsonWriter,
+    occurrences: &[Occurrence],
+) -> Result<(), AllocError> {
     writer.open_list("places")?;
-    for place in places {
-        writer.place(place)?;
+    for occurrence in occurrences {
+        writer.occurrence(occurrence)?;
     }
     writer.json.close_list()
 }

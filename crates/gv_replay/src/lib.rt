@@ -2,45 +2,45 @@
 //!
 //! ```text
 //!   a log -> line by line -> operations -> entries of a journal on an address space -> what was counted, what is alive
-//!                                                     `-> taken back, the newest first: what an address reached before
+//!                                                     `-> asked, the newest first: what an address reached before
 //! ```
 #![tactic(auto)]
 
+mod act;
 mod alive;
 mod binder;
 mod chosen;
 mod fault;
-mod json_place;
+mod freed_buffers;
 mod json_report;
-mod left;
+mod json_writer;
 mod machine;
 mod mapper;
 mod mappings;
 mod objects;
+mod occurrence;
 mod outcome;
 mod past;
-mod place;
 mod player;
-mod playing;
 mod radv;
+mod replayed;
 mod replaying;
 mod report;
-mod row;
 mod run;
 mod script;
 mod sizes;
 mod space_name;
+mod space_replay;
 mod spaces;
 mod tally;
 mod terms;
 mod text;
-mod waiting;
 mod watcher;
 mod whereabouts;
 
+pub use act::{Act, Cause, Moment};
 pub use fault::ReplayFault;
 pub use gv_logs::Format;
-pub use row::{Act, Cause, Moment};
 pub use run::{replay, watch};
 pub use sizes::{Sizes, measure};
 pub use terms::{FlagBits, Form, Terms};

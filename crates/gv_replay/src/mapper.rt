@@ -1,9 +1,9 @@
-//! Mappings of objects that a log knows by pointers.
+//! Replays amdgpu's events and the rows of a gpuvas: mappings of objects known by pointers.
 
+use crate::act::{Act, Cause, Moment};
 use crate::fault::ReplayFault;
 use crate::objects::Objects;
 use crate::replaying::{Freed, Replay};
-use crate::row::{Act, Cause, Moment};
 use crate::terms::Terms;
 use crate::watcher::Watcher;
 use gv_logs::{AmdgpuEvent, AmdgpuLine};
@@ -171,11 +171,11 @@ impl Mapper {
     ) -> Result<(), ReplayFault> {
         let (moment, part) = what;
         if part.object == 0 {
-            return replay.put(alloc, &part.sparse(moment), watcher);
+            return replay.attempt_map(alloc, &part.sparse(moment), watcher);
         }
         let of = (moment, part.object);
         match self.buffer_of(alloc, replay, of, terms, watcher)? {
-            Some(buffer) => replay.put(alloc, &part.of(moment, buffer), watcher),
+            Some(buffer) => replay.attempt_map(alloc, &part.of(moment, buffer), watcher),
             None => Ok(()),
         }
     }

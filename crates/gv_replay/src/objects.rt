@@ -18,12 +18,12 @@ impl<T: Drop> Objects<T> {
         }
     }
 
-    /// The place of the object that a pointer is now, if one came up.
+    /// The index of the object that a pointer is now, if one came up.
     pub fn index_of(&self, pointer: u64) -> Option<usize> {
         self.newest.get(&pointer).copied()
     }
 
-    /// The place of the next object that comes up.
+    /// The index of the next object that comes up.
     pub fn len(&self) -> usize {
         self.known.len()
     }
@@ -32,7 +32,7 @@ impl<T: Drop> Objects<T> {
         self.known.get(index)
     }
 
-    /// The pointer is a new object's, of which this is known. Its place.
+    /// The pointer is a new object's, of which this is known. Its index.
     pub fn add(&mut self, pointer: u64, known: T) -> Result<usize, AllocError> {
         let index = self.known.len();
         let added: Result<(), AllocFailed<T>> = self.known.push(known);
@@ -41,7 +41,7 @@ impl<T: Drop> Objects<T> {
         Ok(index)
     }
 
-    /// This is known of the object at a place from here on.
+    /// This is known of the object at an index from here on.
     pub fn set(&mut self, index: usize, known: T) {
         if let Some(old) = self.known.get_mut(index) {
             *old = known;

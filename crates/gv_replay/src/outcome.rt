@@ -1,15 +1,15 @@
-//! What a replay came to.
+//! What a report shows of a replay: counts, live mappings, the past of addresses.
 
 use crate::alive::Alive;
-use crate::left::Left;
 use crate::past::{Past, pasts_of};
+use crate::replayed::Replayed;
 use crate::tally::Tally;
 use crate::terms::Terms;
 use std::alloc::{AllocError, Global};
 
 /// What was counted, what is alive, and the past of each address that was asked.
 #[derive(Drop)]
-pub struct Outcome {
+pub struct ReplayOutcome {
     pub tally: Tally,
     pub alive: Alive,
     pub pasts: Vec<Past>,
@@ -17,14 +17,18 @@ pub struct Outcome {
     pub first: u64,
 }
 
-impl Outcome {
-    /// What a replay left, which is closed.
-    pub fn of(alloc: Global, left: Left, terms: &Terms<'_>) -> Result<Outcome, AllocError> {
-        let Left {
+impl ReplayOutcome {
+    /// What a replay came to, which is closed.
+    pub fn of(
+        alloc: Global,
+        replayed: Replayed,
+        terms: &Terms<'_>,
+    ) -> Result<ReplayOutcome, AllocError> {
+        let Replayed {
             machine,
             acts,
             tally,
-        } = left;
+        } = replayed;
         let first = machine.first();
         let alive = Alive::of(alloc, machine.space());
         let pasts = match addresses_of(alloc, terms) {
@@ -34,7 +38,7 @@ impl Outcome {
         machine.close();
         let alive = alive?;
         let pasts = pasts?;
-        Ok(Outcome {
+        Ok(ReplayOutcome {
             tally,
             alive,
             pasts,
@@ -43,7 +47,7 @@ impl Outcome {
     }
 }
 
-impl Outcome {
+impl ReplayOutcome {
     /// Whether there is something to tell: a finding, or an address that is asked and reaches something, or did.
     pub fn has_news(&self) -> bool {
         self.tally.has_finding()

@@ -1,7 +1,7 @@
 //! What addresses reached before, told by the held entries that cover them.
 
+use crate::act::Act;
 use crate::machine::Machine;
-use crate::row::Act;
 use gv_types::Op;
 use gv_vm::Place as Reached;
 use std::alloc::{AllocError, Global};

@@ -1,9 +1,9 @@
-//! The lines of a log, carried out one after another.
+//! Replays one address space of a log.
 
 use crate::chosen::Chosen;
 use crate::fault::ReplayFault;
-use crate::left::Left;
-use crate::playing::Playing;
+use crate::replayed::Replayed;
+use crate::space_replay::SpaceReplay;
 use crate::terms::{Form, Terms};
 use crate::watcher::Watcher;
 use gv_io::Source;
@@ -12,7 +12,7 @@ use std::alloc::Global;
 
 /// The replay of one address space, whose it is, and how many heads there were. It has to be ended: it isn't `Drop`.
 struct Player {
-    playing: Playing,
+    space_replay: SpaceReplay,
     chosen: Chosen,
     heads: u64,
 }
@@ -24,35 +24,35 @@ pub fn play<R: Source, V: Watcher>(
     reader: &mut R,
     terms: &Terms<'_>,
     watcher: &mut V,
-) -> Result<Left, ReplayFault> {
+) -> Result<Replayed, ReplayFault> {
     let mut lines = LineReader::new(alloc)?;
     let chosen = Chosen::new(terms)?;
     let mut player = Player {
-        playing: Playing::new(alloc, terms.all, None)?,
+        space_replay: SpaceReplay::new(alloc, terms.all, None)?,
         chosen,
         heads: 0,
     };
     let played = player.take_all(alloc, reader, &mut lines, terms, watcher);
     let Player {
-        playing,
+        space_replay,
         chosen,
         heads: _,
     } = player;
-    let left = playing.end();
+    let replayed = space_replay.end();
     match played {
-        Ok(()) if left.tally.lines == 0 => Err(closed(left, ReplayFault::NoLine)),
-        Ok(()) if chosen.is_missing() => Err(closed(left, ReplayFault::NoSpace)),
+        Ok(()) if replayed.tally.lines == 0 => Err(closed(replayed, ReplayFault::NoLine)),
+        Ok(()) if chosen.is_missing() => Err(closed(replayed, ReplayFault::NoSpace)),
         Ok(()) if chosen.has_others() && terms.form == Form::Mappings => {
-            Err(closed(left, ReplayFault::ManySpaces))
+            Err(closed(replayed, ReplayFault::ManySpaces))
         }
-        Ok(()) => Ok(left),
-        Err(fault) => Err(closed(left, fault)),
+        Ok(()) => Ok(replayed),
+        Err(fault) => Err(closed(replayed, fault)),
     }
 }
 
-/// Closes what a replay left, and answers the fault.
-fn closed(left: Left, fault: ReplayFault) -> ReplayFault {
-    left.close();
+/// Closes what a replay came to, and answers the fault.
+fn closed(replayed: Replayed, fault: ReplayFault) -> ReplayFault {
+    replayed.close();
     fault
 }
 
@@ -72,7 +72,7 @@ impl Player {
                 Found::End => return Ok(()),
             };
             if !is_done {
-                self.playing.replay.tally.pass_over();
+                self.space_replay.replay.tally.pass_over();
             }
         }
         Ok(())
@@ -101,11 +101,11 @@ impl Player {
         terms: &Terms<'_>,
         watcher: &mut V,
     ) -> Result<bool, ReplayFault> {
-        self.playing.replay.tally.count_line();
+        self.space_replay.replay.tally.count_line();
         if !self.chooses(line.1, terms.pid) {
             return Ok(false);
         }
-        self.playing.take(alloc, line, terms, watcher)?;
+        self.space_replay.take(alloc, line, terms, watcher)?;
         Ok(true)
     }
 

@@ -1,9 +1,9 @@
 //! RADV's log, replayed.
 
+use crate::act::{Act, Cause, Moment};
 use crate::fault::ReplayFault;
-use crate::place::Place;
+use crate::occurrence::Occurrence;
 use crate::replaying::{Freed, Replay};
-use crate::row::{Act, Cause, Moment};
 use crate::watcher::Watcher;
 use gv_logs::{RadvEvent, RadvLine};
 use gv_types::{BufferId, Flags, Op, PAGE_BYTES};
@@ -115,9 +115,11 @@ impl Radv {
         match line.event {
             RadvEvent::MemoryMade => self.make(alloc, replay, &span, watcher),
             RadvEvent::MemoryFreed => self.free(alloc, replay, &span, watcher),
-            RadvEvent::SparseMade => { replay.put(alloc, &span.zero(Cause::SparseMade), watcher) }
+            RadvEvent::SparseMade => {
+                replay.attempt_map(alloc, &span.zero(Cause::SparseMade), watcher)
+            }
             RadvEvent::SparseUnbound => {
-                replay.go_on(alloc, &span.zero(Cause::SparseUnbound), watcher)
+                replay.attempt(alloc, &span.zero(Cause::SparseUnbound), watcher)
             }
             RadvEvent::SparseGone => replay.unmap(alloc, &span.gone(), watcher),
             RadvEvent::SparseBound { to } => self.bind(alloc, replay, (&span, to), watcher),
@@ -137,7 +139,7 @@ impl Radv {
             return Ok(());
         };
         if !replay.map(alloc, &span.made(&buffer), watcher)? {
-            return replay.give_up(buffer);
+            return replay.destroy_later(buffer);
         }
         self.keep(replay, span, buffer)
     }
@@ -170,7 +172,7 @@ impl Radv {
                 return Ok(());
             }
             let _gone = self.live.remove(&key);
-            replay.give_up(memory.buffer)?;
+            replay.destroy_later(memory.buffer)?;
         }
         Ok(())
     }
@@ -190,8 +192,8 @@ impl Radv {
         watcher: &mut V,
     ) -> Result<(), ReplayFault> {
         let Some(memory) = self.live.remove(&span.start) else {
-            let place = Place::not_alive(span.moment, span.start, span.len);
-            return replay.tally.of_nothing.add(place);
+            let occurrence = Occurrence::not_alive(span.moment, span.start, span.len);
+            return replay.tally.of_nothing.add(occurrence);
         };
         let freed = Freed {
             buffer: memory.buffer,
@@ -216,11 +218,11 @@ impl Radv {
         match found {
             Some((start, memory)) if to < memory.end => {
                 let act = span.bound(&memory.buffer, to.saturating_sub(start));
-                replay.go_on(alloc, &act, watcher)
+                replay.attempt(alloc, &act, watcher)
             }
             _ => {
-                let place = Place::nowhere(span.moment, [span.start, span.len, to]);
-                replay.tally.to_no_memory.add(place)
+                let occurrence = Occurrence::nowhere(span.moment, [span.start, span.len, to]);
+                replay.tally.to_no_memory.add(occurrence)
             }
         }
     }

@@ -1,13 +1,13 @@
-//! A log's operations, carried out one after another.
+//! Carries out a log's operations, each as an entry of the journal, and counts findings.
 
+use crate::act::{Act, Moment};
 use crate::fault::ReplayFault;
-use crate::left::Left;
+use crate::freed_buffers::FreedBuffers;
 use crate::machine::Machine;
-use crate::place::Place;
-use crate::row::{Act, Moment};
+use crate::occurrence::Occurrence;
+use crate::replayed::Replayed;
 use crate::tally::Tally;
 use crate::text::number_of;
-use crate::waiting::FreedBuffers;
 use crate::watcher::Watcher;
 use crate::whereabouts::Whereabouts;
 use gv_space::Space;
@@ -65,7 +65,7 @@ impl Replay {
     }
 
     /// How many mappings have a page in this range of bytes.
-    pub fn met_by(&self, addr: u64, len: u64) -> u64 {
+    pub fn mappings_in(&self, addr: u64, len: u64) -> u64 {
         match pages_of(addr, len) {
             Some(range) => self.machine.space().list().overlapping(range).1 as u64,
             None => 0,
@@ -73,7 +73,7 @@ impl Replay {
     }
 
     /// Whether a range of bytes is one mapping of this buffer.
-    pub fn is_whole(&self, buffer: &BufferId, addr: u64, len: u64) -> bool {
+    pub fn is_one_mapping(&self, buffer: &BufferId, addr: u64, len: u64) -> bool {
         let Some(range) = pages_of(addr, len) else {
             return false;
         };
@@ -89,23 +89,23 @@ impl Replay {
 
     /// Counts a map that meets live mappings.
     fn note_over(&mut self, act: &Act) -> Result<(), ReplayFault> {
-        let mappings = self.met_by(act.op.addr(), act.op.len());
+        let mappings = self.mappings_in(act.op.addr(), act.op.len());
         if mappings > 0 {
-            self.tally.over_live.add(Place::over(act, mappings))?;
+            self.tally.over_live.add(Occurrence::over(act, mappings))?;
         }
         Ok(())
     }
 
     /// Counts an unmap that meets none.
     fn note_nothing(&mut self, act: &Act) -> Result<(), ReplayFault> {
-        if self.met_by(act.op.addr(), act.op.len()) == 0 {
-            self.tally.of_nothing.add(Place::nothing(act))?;
+        if self.mappings_in(act.op.addr(), act.op.len()) == 0 {
+            self.tally.of_nothing.add(Occurrence::nothing(act))?;
         }
         Ok(())
     }
 
     /// A buffer lives no more: it is destroyed once nothing keeps it, for which the entries so far have to be settled.
-    pub fn give_up(&mut self, buffer: BufferId) -> Result<(), ReplayFault> {
+    pub fn destroy_later(&mut self, buffer: BufferId) -> Result<(), ReplayFault> {
         self.freed.add(buffer, self.machine.next())?;
         Ok(())
     }
@@ -121,7 +121,7 @@ impl Replay {
     ) -> Result<Option<BufferId>, ReplayFault> {
         let mut made = refusal(self.machine.create(alloc, pages))?;
         if made == Err(Fault::TooManyBuffers) {
-            self.give_way(watcher)?;
+            self.destroy_freed(watcher)?;
             made = refusal(self.machine.create(alloc, pages))?;
         }
         match made {
@@ -133,7 +133,7 @@ impl Replay {
             Err(fault) => {
                 self.tally
                     .refused
-                    .add(Place::not_made(moment, pages, fault))?;
+                    .add(Occurrence::not_made(moment, pages, fault))?;
                 Ok(None)
             }
         }
@@ -162,14 +162,14 @@ impl Replay {
     }
 
     /// Carries out a map and counts it so, whether or not it is accepted.
-    pub fn put<V: Watcher>(
+    pub fn attempt_map<V: Watcher>(
         &mut self,
         alloc: Global,
         act: &Act,
         watcher: &mut V,
     ) -> Result<(), ReplayFault> {
         self.note_over(act)?;
-        self.go_on(alloc, act, watcher)
+        self.attempt(alloc, act, watcher)
     }
 
     /// Carries out an unmap, and counts it where it meets none.
@@ -180,11 +180,11 @@ impl Replay {
         watcher: &mut V,
     ) -> Result<(), ReplayFault> {
         self.note_nothing(act)?;
-        self.go_on(alloc, act, watcher)
+        self.attempt(alloc, act, watcher)
     }
 
     /// Carries out an operation, whether or not it is accepted.
-    pub fn go_on<V: Watcher>(
+    pub fn attempt<V: Watcher>(
         &mut self,
         alloc: Global,
         act: &Act,
@@ -260,11 +260,11 @@ impl Replay {
     }
 
     fn note_refused(&mut self, act: &Act, fault: Fault) -> Result<(), ReplayFault> {
-        self.tally.refused.add(Place::refused(act, fault))
+        self.tally.refused.add(Occurrence::refused(act, fault))
     }
 
     /// Ends it: the machine has to be closed.
-    pub fn end(self) -> Left {
+    pub fn end(self) -> Replayed {
         let Replay {
             machine,
             acts,
@@ -272,7 +272,7 @@ impl Replay {
             whereabouts: _,
             tally,
         } = self;
-        Left {
+        Replayed {
             machine,
             acts,
             tally,

@@ -1,12 +1,12 @@
 //! The report of a replay, as text.
 
 use crate::alive::Alive;
-use crate::outcome::Outcome;
+use crate::occurrence::Occurrence;
+use crate::outcome::ReplayOutcome;
 use crate::past::{Before, Past};
-use crate::place::Place;
 use crate::spaces::SpaceOutcome;
 use crate::tally::{FINDINGS, Finding, Tally};
-use crate::text::{write_act, write_place, write_reached};
+use crate::text::{write_act, write_occurrence, write_reached};
 use std::alloc::AllocError;
 use std::fmt::Write;
 
@@ -58,7 +58,7 @@ fn write_others(out: &mut String, spaces: &[SpaceOutcome]) -> Result<(), AllocEr
 }
 
 /// Writes what a replay came to.
-fn write_outcome(out: &mut String, outcome: &Outcome) -> Result<(), AllocError> {
+fn write_outcome(out: &mut String, outcome: &ReplayOutcome) -> Result<(), AllocError> {
     write_tally(out, &outcome.tally)?;
     write_alive(out, &outcome.alive)?;
     for past in &outcome.pasts {
@@ -84,20 +84,20 @@ fn write_tally(out: &mut String, tally: &Tally) -> Result<(), AllocError> {
     Ok(())
 }
 
-/// Writes a finding's count, and its places below it.
+/// Writes a finding's count, and its occurrences below it.
 fn write_finding(out: &mut String, name: &str, finding: &Finding) -> Result<(), AllocError> {
     let count = finding.count();
     writeln!(out, "{count:>6} {name}")?;
-    for place in finding.places() {
-        write_row(out, place)?;
+    for occurrence in finding.occurrences() {
+        write_row(out, occurrence)?;
     }
     Ok(())
 }
 
-/// Writes a place on a line of its own.
-fn write_row(out: &mut String, place: &Place) -> Result<(), AllocError> {
+/// Writes an occurrence on a line of its own.
+fn write_row(out: &mut String, occurrence: &Occurrence) -> Result<(), AllocError> {
     out.push_str("         ")?;
-    write_place(out, place)?;
+    write_occurrence(out, occurrence)?;
     out.push_str("\n")
 }
 

@@ -3,7 +3,7 @@
 use crate::fault::ReplayFault;
 use crate::json_report::write_json;
 use crate::mappings::write_mappings;
-use crate::outcome::Outcome;
+use crate::outcome::ReplayOutcome;
 use crate::player::play;
 use crate::report::write_report;
 use crate::script::ScriptWriter;
@@ -51,8 +51,8 @@ fn outcomes_of<R: Source>(
     if terms.tells_each() {
         return play_each(alloc, reader, terms);
     }
-    let left = play(alloc, reader, terms, &mut Nobody)?;
-    let outcome = Outcome::of(alloc, left, terms)?;
+    let replayed = play(alloc, reader, terms, &mut Nobody)?;
+    let outcome = ReplayOutcome::of(alloc, replayed, terms)?;
     let mut spaces = Vec::new(alloc);
     let name = SpaceName::of(terms.format, 0);
     spaces.push(SpaceOutcome { name, outcome })?;
@@ -66,9 +66,9 @@ fn list_mappings<R: Source>(
     out: &mut String,
     terms: &Terms<'_>,
 ) -> Result<(), ReplayFault> {
-    let left = play(alloc, reader, terms, &mut Nobody)?;
-    let written = write_mappings(out, left.machine.space().list());
-    left.close();
+    let replayed = play(alloc, reader, terms, &mut Nobody)?;
+    let written = write_mappings(out, replayed.machine.space().list());
+    replayed.close();
     written?;
     Ok(())
 }

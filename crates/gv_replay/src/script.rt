@@ -1,7 +1,7 @@
 //! A log's operations as a script.
 
+use crate::act::Act;
 use crate::fault::ReplayFault;
-use crate::row::Act;
 use crate::text::write_op;
 use crate::watcher::Watcher;
 use gv_io::{Output, SCRIPT_LIMIT, Sink, write_all};

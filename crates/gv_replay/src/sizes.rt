@@ -15,12 +15,12 @@ use std::collections::HashMap;
 #[derive(Drop)]
 pub struct Sizes {
     one: Vec<u64>,
-    places: HashMap<u64, usize>,
+    indices: HashMap<u64, usize>,
     each: Vec<Vec<u64>>,
 }
 
 impl Sizes {
-    /// How many pages the object at a place has, in the address space of this number, or in the only one. A log that was changed
+    /// How many pages the object at an index has, in the address space of this number, or in the only one. A log that was changed
     /// meanwhile may have more of them.
     pub fn pages(&self, space: Option<u64>, index: usize) -> u64 {
         let known = match space {
@@ -34,8 +34,8 @@ impl Sizes {
     }
 
     fn of_space(&self, number: u64) -> Option<&Vec<u64>> {
-        let place = self.places.get(&number).copied()?;
-        self.each.get(place)
+        let index = self.indices.get(&number).copied()?;
+        self.each.get(index)
     }
 
     /// Whether the address spaces of the log are told apart.
@@ -56,7 +56,7 @@ struct Size {
 #[derive(Drop)]
 struct Measured {
     one: Objects<Size>,
-    places: HashMap<u64, usize>,
+    indices: HashMap<u64, usize>,
     each: Vec<Objects<Size>>,
     heads: u64,
     chosen: Chosen,
@@ -104,7 +104,7 @@ impl Measured {
         let chosen = Chosen::new(terms)?;
         Ok(Measured {
             one: Objects::new(alloc),
-            places: HashMap::new(alloc),
+            indices: HashMap::new(alloc),
             each: Vec::new(alloc),
             heads: 0,
             chosen,
@@ -152,8 +152,8 @@ impl Measured {
         if !self.are_apart {
             return Ok(());
         }
-        let place = self.place_of(alloc, process)?;
-        match self.each.get_mut(place) {
+        let index = self.index_of(alloc, process)?;
+        match self.each.get_mut(index) {
             Some(objects) => objects.take(line),
             None => Ok(()),
         }
@@ -167,8 +167,8 @@ impl Measured {
         };
         let number = self.heads.max(1);
         if self.are_apart {
-            let place = self.place_of(alloc, number)?;
-            if let Some(objects) = self.each.get_mut(place) {
+            let index = self.index_of(alloc, number)?;
+            if let Some(objects) = self.each.get_mut(index) {
                 return objects.reach(row.object, row.offset, row.len);
             }
         } else if self.chosen.takes_rows(number) {
@@ -177,22 +177,22 @@ impl Measured {
         Ok(())
     }
 
-    /// The place of an address space, which comes up where it isn't known.
-    fn place_of(&mut self, alloc: Global, number: u64) -> Result<usize, AllocError> {
-        if let Some(place) = self.places.get(&number).copied() {
-            return Ok(place);
+    /// The index of an address space, which comes up where it isn't known.
+    fn index_of(&mut self, alloc: Global, number: u64) -> Result<usize, AllocError> {
+        if let Some(index) = self.indices.get(&number).copied() {
+            return Ok(index);
         }
-        let place = self.each.len();
+        let index = self.each.len();
         self.each.reserve(1)?;
-        let _none = self.places.insert(number, place)?;
+        let _none = self.indices.insert(number, index)?;
         self.each.push_reserved(Objects::new(alloc));
-        Ok(place)
+        Ok(index)
     }
 
     fn end(self, alloc: Global) -> Result<Sizes, AllocError> {
         let Measured {
             one,
-            places,
+            indices,
             each,
             heads: _,
             chosen: _,
@@ -201,7 +201,7 @@ impl Measured {
         let each = pages_of_each(alloc, each, are_apart)?;
         Ok(Sizes {
             one: pages_of(alloc, one)?,
-            places,
+            indices,
             each,
         })
     }

@@ -1,10 +1,10 @@
 //! The lines of a log of several address spaces, each of which has a replay of its own.
 
 use crate::fault::ReplayFault;
-use crate::left::Left;
-use crate::outcome::Outcome;
-use crate::playing::Playing;
+use crate::outcome::ReplayOutcome;
+use crate::replayed::Replayed;
 use crate::space_name::SpaceName;
+use crate::space_replay::SpaceReplay;
 use crate::terms::Terms;
 use crate::watcher::Nobody;
 use gv_io::Source;
@@ -16,14 +16,14 @@ use std::collections::HashMap;
 /// it isn't `Drop`.
 struct OneSpace {
     name: SpaceName,
-    playing: Playing,
+    space_replay: SpaceReplay,
     taken: u64,
     has_begun: bool,
 }
 
 /// The address spaces of a log in the order in which they came up, and where each stands. They have to be ended.
 struct Spaces {
-    places: HashMap<u64, usize>,
+    indices: HashMap<u64, usize>,
     all: Vec<OneSpace>,
     /// Lines of the format, heads of a list, and all lines.
     lines: u64,
@@ -35,7 +35,7 @@ struct Spaces {
 #[derive(Drop)]
 pub struct SpaceOutcome {
     pub name: SpaceName,
-    pub outcome: Outcome,
+    pub outcome: ReplayOutcome,
 }
 
 /// Carries out all lines of a log, each in its own address space: what each came to in which a line tells what is mapped, at least one, in
@@ -47,7 +47,7 @@ pub fn play_each<R: Source>(
 ) -> Result<Vec<SpaceOutcome>, ReplayFault> {
     let mut lines = LineReader::new(alloc)?;
     let mut spaces = Spaces {
-        places: HashMap::new(alloc),
+        indices: HashMap::new(alloc),
         all: Vec::new(alloc),
         lines: 0,
         heads: 0,
@@ -120,13 +120,13 @@ impl Spaces {
         of: u64,
         terms: &Terms<'_>,
     ) -> Result<(), ReplayFault> {
-        let is_below_head = self.heads > 0 && !self.places.contains_key(&of);
-        let place = self.place_of(alloc, of, terms)?;
-        let Some(space) = self.all.get_mut(place) else {
+        let is_below_head = self.heads > 0 && !self.indices.contains_key(&of);
+        let index = self.index_of(alloc, of, terms)?;
+        let Some(space) = self.all.get_mut(index) else {
             return Ok(());
         };
         space.count_line(line.1.is_of_mapping(), is_below_head);
-        space.playing.take(alloc, line, terms, &mut Nobody)
+        space.space_replay.take(alloc, line, terms, &mut Nobody)
     }
 
     /// The number of the space that a line does something in: of a VMA's line none before a VMA of the space came up, and of an event
@@ -136,7 +136,7 @@ impl Spaces {
             LogLine::Radv(_) => None,
             LogLine::Amdgpu(line) => Some(line.head.process.unwrap_or(0)),
             LogLine::Vma(line) => {
-                let is_known = line.event.is_of_vma() || self.places.contains_key(&line.space);
+                let is_known = line.event.is_of_vma() || self.indices.contains_key(&line.space);
                 is_known.then_some(line.space)
             }
             LogLine::Gpuvas(GpuvasLine::Head) => {
@@ -147,31 +147,31 @@ impl Spaces {
         }
     }
 
-    /// The place of a space, which comes up where it isn't known.
-    fn place_of(
+    /// The index of a space, which comes up where it isn't known.
+    fn index_of(
         &mut self,
         alloc: Global,
         number: u64,
         terms: &Terms<'_>,
     ) -> Result<usize, ReplayFault> {
-        match self.places.get(&number).copied() {
-            Some(place) => Ok(place),
+        match self.indices.get(&number).copied() {
+            Some(index) => Ok(index),
             None => self.add(alloc, number, terms),
         }
     }
 
-    /// A space comes up. Its place.
+    /// A space comes up. Its index.
     fn add(&mut self, alloc: Global, number: u64, terms: &Terms<'_>) -> Result<usize, ReplayFault> {
-        let place = self.all.len();
+        let index = self.all.len();
         self.all.reserve(1)?;
-        let _none = self.places.insert(number, place)?;
+        let _none = self.indices.insert(number, index)?;
         self.all.push_reserved(OneSpace {
             name: SpaceName::of(terms.format, number),
-            playing: Playing::new(alloc, terms.all, Some(number))?,
+            space_replay: SpaceReplay::new(alloc, terms.all, Some(number))?,
             taken: 0,
             has_begun: false,
         });
-        Ok(place)
+        Ok(index)
     }
 
     /// What the spaces came to, unless a fault came before: all are closed.
@@ -182,7 +182,7 @@ impl Spaces {
         played: Result<(), ReplayFault>,
     ) -> Result<Vec<SpaceOutcome>, ReplayFault> {
         let Spaces {
-            places: _,
+            indices: _,
             mut all,
             lines: _,
             heads: _,
@@ -192,10 +192,15 @@ impl Spaces {
         let mut ended = played;
         while let Some(space) = all.pop() {
             let is_told = space.has_begun || all.is_empty() && outcomes.is_empty();
-            let (name, left) = space.end(read);
+            let (name, replayed) = space.end(read);
             match ended {
-                Ok(()) if is_told => ended = add_outcome(alloc, &mut outcomes, (name, left), terms),
-                _ => left.close(),
+                Ok(()) if is_told => ended = add_outcome(
+                    alloc,
+                    &mut outcomes,
+                    (name, replayed),
+                    terms,
+                ),
+                _ => replayed.close(),
             }
         }
         all.destroy_empty();
@@ -212,17 +217,17 @@ impl OneSpace {
         self.has_begun = self.has_begun || begins;
     }
 
-    /// Its name, and what its replay left, of a log of so many lines: those that aren't of the space did nothing.
-    fn end(self, read: u64) -> (SpaceName, Left) {
+    /// Its name, and what its replay came to, of a log of so many lines: those that aren't of the space did nothing.
+    fn end(self, read: u64) -> (SpaceName, Replayed) {
         let OneSpace {
             name,
-            playing,
+            space_replay,
             taken,
             has_begun: _,
         } = self;
-        let mut left = playing.end();
-        left.tally.passed_over = read.saturating_sub(taken);
-        (name, left)
+        let mut replayed = space_replay.end();
+        replayed.tally.passed_over = read.saturating_sub(taken);
+        (name, replayed)
     }
 }
 
@@ -230,11 +235,11 @@ impl OneSpace {
 fn add_outcome(
     alloc: Global,
     outcomes: &mut Vec<SpaceOutcome>,
-    left: (SpaceName, Left),
+    replayed: (SpaceName, Replayed),
     terms: &Terms<'_>,
 ) -> Result<(), ReplayFault> {
-    let (name, left) = left;
-    let outcome = Outcome::of(alloc, left, terms)?;
+    let (name, replayed) = replayed;
+    let outcome = ReplayOutcome::of(alloc, replayed, terms)?;
     outcomes.push(SpaceOutcome { name, outcome })?;
     Ok(())
 }

@@ -1,19 +1,19 @@
 //! What a replay counts.
 
+use crate::act::{Act, Cause, Moment};
 use crate::fault::ReplayFault;
-use crate::place::{Head, Place};
-use crate::row::{Act, Cause, Moment};
+use crate::occurrence::{Head, Occurrence};
 use gv_types::Op;
 use std::alloc::Global;
 
-/// A finding is told with so many places, unless all are asked for.
+/// A finding is told with so many occurrences, unless all are asked for.
 const PLACES: usize = 3;
 
-/// How often a finding was made, and where: the first places, or all.
+/// How often a finding was made, and where: the first occurrences, or all.
 #[derive(Drop)]
 pub struct Finding {
     count: u64,
-    places: Vec<Place>,
+    occurrences: Vec<Occurrence>,
     is_whole: bool,
 }
 
@@ -21,7 +21,7 @@ impl Finding {
     fn new(alloc: Global, is_whole: bool) -> Finding {
         Finding {
             count: 0,
-            places: Vec::new(alloc),
+            occurrences: Vec::new(alloc),
             is_whole,
         }
     }
@@ -30,13 +30,13 @@ impl Finding {
         self.count
     }
 
-    pub fn places(&self) -> &[Place] {
-        self.places.as_slice()
+    pub fn occurrences(&self) -> &[Occurrence] {
+        self.occurrences.as_slice()
     }
 
     /// It was made here too.
-    pub fn add(&mut self, place: Place) -> Result<(), ReplayFault> {
-        // The borrow checker proves this only where the function names the types inside the place.
+    pub fn add(&mut self, occurrence: Occurrence) -> Result<(), ReplayFault> {
+        // The borrow checker proves this only where the function names the types inside the occurrence.
         let _head = Head::Act {
             act: Act {
                 moment: Moment {
@@ -48,8 +48,8 @@ impl Finding {
             },
         };
         self.count = self.count.saturating_add(1);
-        if self.is_whole || self.places.len() < PLACES {
-            self.places.push(place)?;
+        if self.is_whole || self.occurrences.len() < PLACES {
+            self.occurrences.push(occurrence)?;
         }
         Ok(())
     }
@@ -57,15 +57,15 @@ impl Finding {
 
 /// A finding by its key in JSON, and as it is told in text.
 #[derive(Clone, Copy)]
-pub struct Told {
+pub struct FindingName {
     pub key: &'static str,
     pub name: &'static str,
-    of: Kind,
+    of: FindingKind,
 }
 
 /// What may be found.
 #[derive(Clone, Copy)]
-enum Kind {
+enum FindingKind {
     OverLive,
     OfNothing,
     StillReached,
@@ -74,31 +74,31 @@ enum Kind {
 }
 
 /// The findings in the order in which they are told.
-pub const FINDINGS: &[Told] = &[
-    Told {
+pub const FINDINGS: &[FindingName] = &[
+    FindingName {
         key: "over_live",
         name: "maps over live mappings",
-        of: Kind::OverLive,
+        of: FindingKind::OverLive,
     },
-    Told {
+    FindingName {
         key: "of_nothing",
         name: "unmaps of nothing",
-        of: Kind::OfNothing,
+        of: FindingKind::OfNothing,
     },
-    Told {
+    FindingName {
         key: "still_reached",
         name: "freed buffers that other mappings still reached",
-        of: Kind::StillReached,
+        of: FindingKind::StillReached,
     },
-    Told {
+    FindingName {
         key: "to_no_memory",
         name: "binds to no live memory",
-        of: Kind::ToNoMemory,
+        of: FindingKind::ToNoMemory,
     },
-    Told {
+    FindingName {
         key: "refused",
         name: "refused",
-        of: Kind::Refused,
+        of: FindingKind::Refused,
     },
 ];
 
@@ -137,13 +137,13 @@ impl Tally {
     }
 
     /// The finding that is told so.
-    pub fn finding(&self, told: &Told) -> &Finding {
+    pub fn finding(&self, told: &FindingName) -> &Finding {
         match told.of {
-            Kind::OverLive => &self.over_live,
-            Kind::OfNothing => &self.of_nothing,
-            Kind::StillReached => &self.still_reached,
-            Kind::ToNoMemory => &self.to_no_memory,
-            Kind::Refused => &self.refused,
+            FindingKind::OverLive => &self.over_live,
+            FindingKind::OfNothing => &self.of_nothing,
+            FindingKind::StillReached => &self.still_reached,
+            FindingKind::ToNoMemory => &self.to_no_memory,
+            FindingKind::Refused => &self.refused,
         }
     }
 

@@ -53,7 +53,7 @@ pub struct Terms<'a> {
     pub space: Option<&'a str>,
     /// The addresses, in bytes, whose past is asked.
     pub addresses: &'a [u64],
-    /// Each finding is told with all places where it was made, and not with three.
+    /// Each finding is told with all occurrences where it was made, and not with three.
     pub all: bool,
     pub form: Form,
     /// What `measure` gave for the log, if it was asked. Without it an object whose size no line tells is as large as can be.

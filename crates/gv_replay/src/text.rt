@@ -1,7 +1,7 @@
-//! Operations, moments and places in words.
+//! Operations, moments and occurrences in words.
 
-use crate::place::{Digits, Field, Head, Place};
-use crate::row::{Act, Moment};
+use crate::act::{Act, Moment};
+use crate::occurrence::{Digits, Field, Head, Occurrence};
 use gv_types::{BufferId, Flags, Op};
 use gv_vm::{Place as Reached, Target};
 use std::alloc::AllocError;
@@ -124,12 +124,12 @@ fn write_target(out: &mut String, target: &Target) -> Result<(), AllocError> {
 }
 
 /// Writes where a finding was made.
-pub fn write_place(out: &mut String, place: &Place) -> Result<(), AllocError> {
-    write_head(out, &place.head)?;
-    for (field, number) in place.kind.fields().iter().zip(&place.numbers) {
+pub fn write_occurrence(out: &mut String, occurrence: &Occurrence) -> Result<(), AllocError> {
+    write_head(out, &occurrence.head)?;
+    for (field, number) in occurrence.kind.fields().iter().zip(&occurrence.numbers) {
         write_field(out, field, *number)?;
     }
-    match place.fault {
+    match occurrence.fault {
         Some(fault) => write!(out, ": {fault}"),
         None => Ok(()),
     }

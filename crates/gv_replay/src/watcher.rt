@@ -1,7 +1,7 @@
 //! Who looks on while a log is replayed.
 
+use crate::act::Act;
 use crate::fault::ReplayFault;
-use crate::row::Act;
 use gv_space::Space;
 use gv_types::{Fault, PageOp};
 

@@ -8,7 +8,7 @@ use Rattle.gv_lines.specs.declared.serve_line.ServeLine.{ServeLine}
 use Rattle.gv_session.specs.State.{SessionState, start}
 use Rattle.gv_session.specs.Line.{Written, Runs, RunsText}
 use Rattle.gv_text.specs.Script.{Replies, RunsWhole, refusals_of}
-use Rattle.gv_serve.specs.Added.{Serves, ServesText}
+use Rattle.gv_serve.specs.DialogueLine.{Serves, ServesText}
 use Rattle.gv_serve.specs.Dialogue.{IsAnswered, AreAnswered, IsDialogue, EndsWith, others_in, following}
 
 run_only : (o : Option Line) (other : Option ServeLine) (s t : SessionState) (w : Written) → IsSomeAnd (run_or o other) (λ said. Serves said s w t) → 0 ≡ others_in o →

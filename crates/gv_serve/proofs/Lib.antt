@@ -1,3 +1,3 @@
-pub mod Fronts
+pub mod AnsweredLines
 pub mod AsRun
 pub mod Partials

@@ -1,4 +1,4 @@
--- What is kept of a line.
+-- What is kept of a line that is not at its end yet.
 use Rattle.std.proofs.Common.{◌≡◌, ℕ, ◌+◌, ◌<◌, ◌≤◌, true, false, List, [], ◌++◌, length, ap, arith, length-append}
 use Rattle.gv_serve.specs.Partial.{HoldsSo, line_limit}
 

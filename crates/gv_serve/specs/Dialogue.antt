@@ -9,9 +9,9 @@ use Rattle.gv_lines.specs.declared.line.Line.{Line}
 use Rattle.gv_lines.specs.declared.line.Line.TheVariants.{Silent}
 use Rattle.gv_lines.specs.declared.serve_line.ServeLine.TheVariants.{Run}
 use Rattle.gv_session.specs.Line.{Written}
-use Rattle.gv_session.specs.Reply.{reply}
+use Rattle.gv_session.specs.Texts.{reply}
 use Rattle.gv_session.specs.State.{SessionState, start}
-use Rattle.gv_serve.specs.Added.{ServesText, IsGoodText, LeavesText}
+use Rattle.gv_serve.specs.DialogueLine.{ServesText, IsGoodText, LeavesText}
 use Rattle.gv_serve.specs.Partial.{line_limit}
 use Rattle.gv_serve.specs.declared.fault.ServeFault.{ServeFault}
 use Rattle.gv_serve.specs.declared.fault.ServeFault.TheVariants.{ReadFault, WriteFault, OutOfMemory}
@@ -48,20 +48,20 @@ pub record IsRefused (s : SessionState) (number : ℕ) (line text : List ℕ) (t
   pub replied : IsBadReply number text
   pub state : t ≡ s
 
-abbrev pub want_reply : List ℕ
-want_reply = reply (codes "out of memory" ∷ [])
+abbrev pub no_memory_reply : List ℕ
+no_memory_reply = reply (codes "out of memory" ∷ [])
 
 -- A line wanted memory: it is not bad, and neither empty nor a comment.
-pub record IsWanting (s : SessionState) (line text : List ℕ) (t : SessionState) : Type 0 where
+pub record RanOutOfMemory (s : SessionState) (line text : List ℕ) (t : SessionState) : Type 0 where
   pub good : IsGoodLine line s
   pub says : serve_parsed line ≢ Some (Run Silent)
-  pub left : LeavesText line s t
-  pub text_is : text ≡ want_reply
+  pub stopped : LeavesText line s t
+  pub text_is : text ≡ no_memory_reply
 
 -- The answer to a line. `others` is 0 where the line was run as that of a script.
 abbrev pub IsAnswered : SessionState → ℕ → List ℕ → List ℕ → SessionState → ℕ → Type 0
 IsAnswered s number line text t others =
-    IsServed s line text t others ⊎ (IsRefused s number line text t × (others ≡ 1)) ⊎ (IsWanting s line text t × (others ≡ 1))
+    IsServed s line text t others ⊎ (IsRefused s number line text t × (others ≡ 1)) ⊎ (RanOutOfMemory s line text t × (others ≡ 1))
 
 -- These lines, of which the first has this number, are answered by this text, one after another, and lead from the old state to
 -- the new; the next line has the last number. So many are not run as those of a script.
@@ -111,8 +111,8 @@ abbrev pub most_reads : ℕ
 most_reads = 2 ^ 64 - 1
 
 -- the input is at its end, or so many reads have each given a byte
-abbrev pub IsOver : Option (List ℕ) → List ℕ → Type 0
-IsOver left input = IsAtEnd left ⊎ (most_reads ≤ length input)
+abbrev pub IsReadToEnd : Option (List ℕ) → List ℕ → Type 0
+IsReadToEnd remaining input = IsAtEnd remaining ⊎ (most_reads ≤ length input)
 
 -- A failed read is the answer exactly where the reader's flag goes up. The flag is given before and after.
 abbrev pub TellsReads : {T : Type 0} → Bool → Bool → Result T ServeFault → Type 0

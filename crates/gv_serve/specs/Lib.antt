@@ -1,4 +1,4 @@
 pub mod Partial
-pub mod Added
+pub mod DialogueLine
 pub mod Dialogue
-pub mod Hearing
+pub mod DialogueProgress

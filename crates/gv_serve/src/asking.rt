@@ -1,12 +1,12 @@
 //! Questions of a dialogue about the journal. Nothing changes.
 ghost use Rattle.std.specs.Prelude.{◌≡◌, ◌≢◌, Err, OnOk, OnErr};
 ghost use Rattle.gv_session.specs.State.{begun};
-ghost use Rattle.gv_session.specs.Serving.{Wrote};
+ghost use Rattle.gv_session.specs.LineProgress.{Wrote};
 ghost use Rattle.gv_session.specs.Stopping.{Loses};
-ghost use Rattle.gv_serve.specs.Added.{Asks};
+ghost use Rattle.gv_serve.specs.DialogueLine.{Asks};
 
 use gv_journal::{HeldItem, ItemKind};
-use gv_text::{LineFault, Names, Session, write_place, write_refused};
+use gv_text::{BufferNames, LineFault, Session, write_place, write_refused};
 use gv_types::{BufferId, Fault, Flags, Op, OutOfMemory};
 use std::alloc::{AllocError, Global};
 use std::fmt::Write;
@@ -20,7 +20,7 @@ pub fn show(
 ) -> Result<(), LineFault>
     ensures done { OnOk result (Wrote Asks session.old out.old out.new session.new) }
     ensures memory { result ≢ Err LineFault.Bad }
-    ensures left { OnErr result (Loses Asks session.old session.new) }
+    ensures stopped { OnErr result (Loses Asks session.old session.new) }
 {
     let reply = shown(alloc, session, entry)?;
     say(session, reply.as_str(), out)
@@ -35,7 +35,7 @@ pub fn past(
 ) -> Result<(), LineFault>
     ensures done { OnOk result (Wrote Asks session.old out.old out.new session.new) }
     ensures memory { result ≢ Err LineFault.Bad }
-    ensures left { OnErr result (Loses Asks session.old session.new) }
+    ensures stopped { OnErr result (Loses Asks session.old session.new) }
 {
     let reply = recalled(alloc, session, addr)?;
     say(session, reply.as_str(), out)
@@ -45,7 +45,7 @@ pub fn past(
 fn say(session: &mut Session, reply: &str, out: &mut String) -> Result<(), LineFault>
     ensures done { OnOk result (Wrote Asks session.old out.old out.new session.new) }
     ensures memory { result ≢ Err LineFault.Bad }
-    ensures left { OnErr result (session.new ≡ begun session.old) }
+    ensures stopped { OnErr result (session.new ≡ begun session.old) }
 {
     session.begin();
     Ok(out.push_str(reply)?)
@@ -87,14 +87,14 @@ fn recalled(alloc: Global, session: &Session, addr: u64) -> Result<String, OutOf
     Ok(out)
 }
 
-fn write_kind(out: &mut String, names: &Names, kind: &ItemKind) -> Result<(), AllocError> {
+fn write_kind(out: &mut String, names: &BufferNames, kind: &ItemKind) -> Result<(), AllocError> {
     match kind {
         ItemKind::Withdrawal { of } => writeln!(out, "withdrawal of {of}"),
         ItemKind::Bind { request, .. } => write_ops(out, names, request.ops.as_slice()),
     }
 }
 
-fn write_ops(out: &mut String, names: &Names, ops: &[Op]) -> Result<(), AllocError> {
+fn write_ops(out: &mut String, names: &BufferNames, ops: &[Op]) -> Result<(), AllocError> {
     if ops.is_empty() {
         return out.push_str("empty\n");
     }
@@ -105,7 +105,7 @@ fn write_ops(out: &mut String, names: &Names, ops: &[Op]) -> Result<(), AllocErr
 }
 
 /// Writes an operation as a line has it.
-fn write_op(out: &mut String, names: &Names, op: &Op) -> Result<(), AllocError> {
+fn write_op(out: &mut String, names: &BufferNames, op: &Op) -> Result<(), AllocError> {
     match *op {
         Op::Map {
             addr,
@@ -132,7 +132,7 @@ fn write_op(out: &mut String, names: &Names, op: &Op) -> Result<(), AllocError> 
     }
 }
 
-fn write_name(out: &mut String, names: &Names, id: BufferId) -> Result<(), AllocError> {
+fn write_name(out: &mut String, names: &BufferNames, id: BufferId) -> Result<(), AllocError> {
     match names.name_of(id) {
         Some(name) => out.push_str(name.as_str()),
         None => Ok(()),

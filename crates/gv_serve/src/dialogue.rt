@@ -3,16 +3,16 @@ ghost use Rattle.std.specs.Prelude.{◌≡◌, ◌≢◌, ◌++◌, true, Err, O
 ghost use Rattle.std.specs.Io.KnownBytes.{Appends, Consumes, append_known};
 ghost use Rattle.gv_text.specs.Script.{RunsWhole};
 ghost use Rattle.gv_session.specs.State.{start};
-ghost use Rattle.gv_serve.specs.Dialogue.{IsDialogue, IsBroken, IsOver, IsAnswered, EndsWith, TellsReads, TellsWrites, following};
+ghost use Rattle.gv_serve.specs.Dialogue.{IsDialogue, IsBroken, IsReadToEnd, IsAnswered, EndsWith, TellsReads, TellsWrites, following};
 ghost use Rattle.gv_serve.specs.Partial.{Holds};
-ghost use Rattle.gv_serve.specs.Hearing.{Hears};
+ghost use Rattle.gv_serve.specs.DialogueProgress.{AnswersBytes};
 
 use crate::bad::write_bad;
 use crate::fault::ServeFault;
 use crate::partial::Partial;
 use crate::talk::Talk;
 use gv_lines::split_once;
-use gv_text::{Sink, Source, WriteFault, tell_why};
+use gv_text::{Sink, Source, WriteFault, write_why};
 use gv_types::OutOfMemory;
 use std::alloc::Global;
 
@@ -34,7 +34,7 @@ pub fn serve<R: Source, W: Sink>(
     // The text is the answers to the bytes that the reader gave; where each line is answered as that of a script, it is the text of
     // a run of the script.
     ensures text { OnOk result ((input text : List ℕ) × (others : ℕ)
-        × Consumes (R.remaining reader.old) (R.remaining reader.new) input × IsOver (R.remaining reader.new) input
+        × Consumes (R.remaining reader.old) (R.remaining reader.new) input × IsReadToEnd (R.remaining reader.new) input
         × IsDialogue input text others × Appends (W.written writer.old) (W.written writer.new) text
         × (others ≡ 0 → (refusals : ℕ) × RunsWhole input text refusals)) }
     // Where a read fails, all lines before it are answered.
@@ -87,7 +87,7 @@ impl Dialogue {
         requires number { self.old.talk.number ≡ 1 }
         requires partial { Holds self.old.partial [] }
         ensures text { OnOk result ((input text : List ℕ) × (others : ℕ)
-            × Consumes (R.remaining reader.old) (R.remaining reader.new) input × IsOver (R.remaining reader.new) input
+            × Consumes (R.remaining reader.old) (R.remaining reader.new) input × IsReadToEnd (R.remaining reader.new) input
             × IsDialogue input text others × Appends (W.written writer.old) (W.written writer.new) text
             × (others ≡ 0 → (refusals : ℕ) × RunsWhole input text refusals)) }
         ensures broken { result ≡ Err ServeFault.ReadFault → (input text : List ℕ)
@@ -104,19 +104,19 @@ impl Dialogue {
             if count == 0 {
                 return Ok(self.end(writer)?);
             }
-            self.hear(alloc, &chunk[..count], writer)?;
+            self.answer_lines(alloc, &chunk[..count], writer)?;
         }
         Ok(self.end(writer)?)
     }
 
     /// Answers the lines that end in these bytes, and keeps those behind the last line end.
-    fn hear<W: Sink>(
+    fn answer_lines<W: Sink>(
         &mut self,
         alloc: Global,
         bytes: &[u8],
         writer: &mut W,
     ) -> Result<(), WriteFault>
-        ensures heard { OnOk result ((text : List ℕ) × Hears self.old.talk.session self.old.talk.number self.old.partial bytes.now text
+        ensures heard { OnOk result ((text : List ℕ) × AnswersBytes self.old.talk.session self.old.talk.number self.old.partial bytes.now text
             self.new.talk.session self.new.talk.number self.new.partial
             × Appends (append_known (W.written writer.old) self.old.talk.output) (append_known (W.written writer.new) self.new.talk.output) text) }
         ensures unset { OnOk result (W.failed writer.new ≡ W.failed writer.old) }
@@ -176,7 +176,7 @@ impl Dialogue {
         ensures set { OnErr result (W.failed writer.new ≡ true) }
     {
         if !self.partial.is_empty() {
-            tell_why(&mut self.talk.reply, &self.partial.no_line_end());
+            write_why(&mut self.talk.reply, &self.partial.no_line_end());
             write_bad(
                 &mut self.talk.output,
                 writer,

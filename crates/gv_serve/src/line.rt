@@ -3,12 +3,12 @@ ghost use Rattle.std.specs.Prelude.{◌≡◌, ◌↔◌, Err, Some, IsOk, IsTru
 ghost use Rattle.gv_lines.specs.ServeLine.{serve_parsed};
 ghost use Rattle.gv_lines.specs.declared.line.Line.TheVariants.{Silent};
 ghost use Rattle.gv_lines.specs.declared.serve_line.ServeLine.TheVariants as said;
-ghost use Rattle.gv_session.specs.Serving.{Wrote};
-ghost use Rattle.gv_serve.specs.Added.{Serves, ServesText, IsAlone, IsGoodServe, IsGoodText, LeavesServe, LeavesText};
+ghost use Rattle.gv_session.specs.LineProgress.{Wrote};
+ghost use Rattle.gv_serve.specs.DialogueLine.{Serves, ServesText, IsAlone, IsGoodServe, IsGoodText, LeavesServe, LeavesText};
 
-use crate::{added, asking};
+use crate::{asking, queue_lines};
 use gv_lines::{Line, ServeLine, parse_serve_line};
-use gv_text::{LineFault, Session, once, run_line};
+use gv_text::{LineFault, Session, run_event, run_line};
 use gv_vm::Event;
 use std::alloc::Global;
 
@@ -23,7 +23,7 @@ pub fn serve_text(
     ensures bad { result ≡ Err LineFault.Bad → ¬ IsGoodText text.now session.old }
     ensures same { result ≡ Err LineFault.Bad → session.new ≡ session.old }
     ensures memory { result ≡ Err LineFault.OutOfMemory → IsGoodText text.now session.old }
-    ensures left { result ≡ Err LineFault.OutOfMemory → LeavesText text.now session.old session.new }
+    ensures stopped { result ≡ Err LineFault.OutOfMemory → LeavesText text.now session.old session.new }
     ensures silent { serve_parsed text.now ≡ Some (said.Run Silent) → IsOk result }
 {
     match parse_serve_line(text) {
@@ -43,7 +43,7 @@ fn serve_line(
     ensures bad { result ≡ Err LineFault.Bad → ¬ IsGoodServe line.entry session.old }
     ensures same { result ≡ Err LineFault.Bad → session.new ≡ session.old }
     ensures memory { result ≡ Err LineFault.OutOfMemory → IsGoodServe line.entry session.old }
-    ensures left { result ≡ Err LineFault.OutOfMemory → LeavesServe line.entry session.old session.new }
+    ensures stopped { result ≡ Err LineFault.OutOfMemory → LeavesServe line.entry session.old session.new }
     ensures silent { line.entry ≡ said.Run Silent → IsOk result }
 {
     match line {
@@ -53,11 +53,16 @@ fn serve_line(
             }
             run_line(alloc, session, line, out)
         }
-        ServeLine::Put { clauses } => added::put(alloc, session, &clauses, out),
-        ServeLine::Turn { queue } => added::turn(alloc, session, queue, out),
-        ServeLine::GiveUp { queue } => added::give_up(alloc, session, queue, out),
-        ServeLine::Forget { queue, to } => once(alloc, session, Event::Forget { queue, to }, out),
-        ServeLine::Trim => once(alloc, session, Event::Trim, out),
+        ServeLine::Put { clauses } => queue_lines::put(alloc, session, &clauses, out),
+        ServeLine::Turn { queue } => queue_lines::turn(alloc, session, queue, out),
+        ServeLine::GiveUp { queue } => queue_lines::give_up(alloc, session, queue, out),
+        ServeLine::Forget { queue, to } => run_event(
+            alloc,
+            session,
+            Event::Forget { queue, to },
+            out,
+        ),
+        ServeLine::Trim => run_event(alloc, session, Event::Trim, out),
         ServeLine::Show { entry } => asking::show(alloc, session, entry, out),
         ServeLine::Past { addr } => asking::past(alloc, session, addr, out),
     }

@@ -1,13 +1,13 @@
 //! Why a line of a dialogue is bad.
 
-use gv_lines::{Line, Place, ServeLine, Slip, explain_serve, parse_serve_line};
+use gv_lines::{Line, Misplacement, ServeLine, Slip, explain_serve, parse_serve_line};
 use gv_text::{Session, at_first_word, why_misplaced};
 use std::alloc::Global;
 
 /// Where a line is bad first, and why. It has to be bad there.
 pub fn why_bad<'a>(alloc: Global, session: &Session, line: &'a [u8]) -> Slip<'a> {
     if let Some(queue) = busy_queue(session, line) {
-        return at_first_word(Place::Busy { queue });
+        return at_first_word(Misplacement::Busy { queue });
     }
     match explain_serve(alloc, line) {
         Some(slip) => slip,

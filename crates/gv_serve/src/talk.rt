@@ -1,4 +1,4 @@
-//! The answers of a dialogue, line by line.
+//! A dialogue's session, and the answer in text to each of its lines.
 ghost use Rattle.std.specs.Prelude.{◌≡◌, ◌≤◌, true, OnOk, OnErr, IfOk, List, ℕ, [], length};
 ghost use Rattle.std.specs.Io.KnownBytes.{Appends, append_known};
 ghost use Rattle.gv_session.specs.State.{start};
@@ -9,7 +9,7 @@ use crate::bad::write_bad;
 use crate::line::serve_text;
 use crate::reason::why_bad;
 use gv_lines::Slip;
-use gv_text::{LineFault, Output, Session, Sink, WriteFault, tell_why};
+use gv_text::{LineFault, Output, Session, Sink, WriteFault, write_why};
 use gv_types::OutOfMemory;
 use std::alloc::Global;
 
@@ -62,7 +62,7 @@ impl Talk {
         match serve_text(alloc, &mut self.session, line, &mut self.reply) {
             Ok(()) => self.output.push(writer, self.reply.as_bytes()),
             Err(LineFault::Bad) => {
-                tell_why(&mut self.reply, &why_bad(alloc, &self.session, line));
+                write_why(&mut self.reply, &why_bad(alloc, &self.session, line));
                 write_bad(&mut self.output, writer, number, self.reply.as_bytes())
             }
             Err(LineFault::OutOfMemory) => self.output.push(writer, b"out of memory\n"),
@@ -80,7 +80,7 @@ impl Talk {
     {
         let number = self.number;
         self.number = number.saturating_add(1);
-        tell_why(&mut self.reply, &Slip::too_long());
+        write_why(&mut self.reply, &Slip::too_long());
         write_bad(&mut self.output, writer, number, self.reply.as_bytes())
     }
 }

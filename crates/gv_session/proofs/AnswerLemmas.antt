@@ -1,4 +1,4 @@
--- For callers: what an answer tells of what is there, and of faults.
+-- For callers: options and results that an answer carries.
 use Rattle.std.proofs.Common.{◌≡◌, ◌≢◌, false, Option, Some, None, is_some, Result, Ok, Err, MatchOption, IsOkUnless, OnOk, refl, sym, ap, subst}
 use Rattle.std.specs.Prelude.{ok_or}
 use Rattle.gv_types.specs.declared.fault.Fault.{Fault}

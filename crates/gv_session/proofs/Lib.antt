@@ -1,10 +1,10 @@
 pub mod AnswerLemmas
-pub mod Servings
+pub mod RepliesWritten
 pub mod LinesLemmas
 pub mod StoppedLemmas
 pub mod NumberedLemmas
-pub mod Held
-pub mod Numbers
-pub mod Journals
-pub mod Within
-pub mod Asks
+pub mod InsideBuffer
+pub mod TimelineCount
+pub mod JournalLines
+pub mod DeclaredPoints
+pub mod ClauseRequests

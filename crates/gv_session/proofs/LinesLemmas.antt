@@ -1,4 +1,4 @@
--- What single lines do.
+-- Lines of one event, and questions: what they do and write.
 use Rattle.std.proofs.Common.{◌≡◌, ℕ, List, [], ◌∷◌, ◌++◌, true, Some, Result, Err, String, string_bytes, refl, sym, ap, ◌∙◌, subst, append-nil, ◌<◌, nat_lt, arith}
 use Rattle.std.proofs.lemmas.Bool.Decides.{nat_tests}
 use Rattle.std.specs.List.{flat_map, list_any}
@@ -14,11 +14,11 @@ use Rattle.gv_session.specs.declared.fault.LineFault.{LineFault}
 use Rattle.gv_session.specs.declared.fault.LineFault.TheVariants.{Bad, OutOfMemory as NoMemory}
 use Rattle.gv_session.specs.State.{SessionState, Buffers, begun}
 use Rattle.gv_vm.specs.Plans.{once, IsCarriedOut, Steps, nothing}
-use Rattle.gv_session.specs.Reply.{reply}
-use Rattle.gv_session.specs.Said.{reply_out_of_memory}
+use Rattle.gv_session.specs.Texts.{reply}
+use Rattle.gv_session.specs.ReplyTexts.{reply_out_of_memory}
 use Rattle.gv_session.specs.Line.{Written, plain, Does, Runs}
 use Rattle.gv_session.specs.Question.{IsAnswer, with_vm}
-use Rattle.gv_session.specs.Serving.{Wrote}
+use Rattle.gv_session.specs.LineProgress.{Wrote}
 use Rattle.gv_vm.proofs.PlanLemmas.{goes_first, carried_out}
 
 -- one event was asked, and no more is

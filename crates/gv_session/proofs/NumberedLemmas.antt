@@ -1,7 +1,7 @@
--- NumberedItem lines, one more at their end.
+-- Numbered lines, one more at their end.
 use Rattle.std.proofs.Common.{◌≡◌, ◌∙◌, ◌∷◌, [], List, ℕ, ◌++◌, ◌+◌, ◌<◌, ap, sym, append_assoc, append-nil, add-zero, length, take, get_or, arith}
 use Rattle.std.proofs.lemmas.List.{take_more, length-take-le}
-use Rattle.gv_session.specs.Reply.{numbered_lines}
+use Rattle.gv_session.specs.Texts.{numbered_lines}
 
 -- some lines, and more
 numbered_lines-append : {X : Type 0} (line : ℕ → X → List ℕ) (number : ℕ) (xs ys : List X) →

@@ -1,4 +1,4 @@
--- What a fault leaves of a line.
+-- How much of a line was done when it stopped with a fault.
 use Rattle.std.proofs.Common.{◌≡◌, ◌≢◌, ℕ, ◌<◌, ◌++◌, List, [], ◌∷◌, Some, true, drop, length, Result, Ok, Err, inl, inr, refl, ap, ◌∙◌, zero, suc, subst, arith, OnErr, IfErr}
 use Rattle.gv_types.specs.declared.request.Point.{Point}
 use Rattle.gv_vm.specs.Plans.{Plan, Goes, looks, payments}
@@ -12,13 +12,13 @@ use Rattle.gv_lines.specs.Clause.{queue_asked}
 use Rattle.gv_lines.specs.declared.clause.Clause.{Clause}
 use Rattle.gv_lines.specs.declared.line.Line.TheVariants as line
 use Rattle.gv_lines.specs.declared.line.Line.{Line}
-use Rattle.gv_session.specs.Asking.{IsRequest}
+use Rattle.gv_session.specs.Requests.{IsRequest}
 use Rattle.std.specs.List.{flat_map, list_any}
 use Rattle.gv_vm.specs.Plans.{once, Steps}
 use Rattle.gv_session.specs.Line.{Written, Runs, Does}
-use Rattle.gv_session.specs.Said.{reply_out_of_memory}
+use Rattle.gv_session.specs.ReplyTexts.{reply_out_of_memory}
 use Rattle.gv_session.proofs.LinesLemmas.{once_done}
-use Rattle.gv_session.specs.Serving.{StopsAt}
+use Rattle.gv_session.specs.LineProgress.{StopsAt}
 use Rattle.gv_session.specs.State.{SessionState, begun}
 use Rattle.gv_session.specs.Stopping.{IsAmid, Loses, Leaves}
 use Rattle.gv_session.specs.declared.fault.LineFault.{LineFault}

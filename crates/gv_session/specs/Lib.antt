@@ -1,10 +1,10 @@
 pub mod State
-pub mod Asking
-pub mod Reply
-pub mod Said
+pub mod Requests
+pub mod Texts
+pub mod ReplyTexts
 pub mod Line
 pub mod Question
 pub mod Inside
-pub mod Serving
+pub mod LineProgress
 pub mod Stopping
 pub mod Faults

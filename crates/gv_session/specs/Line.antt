@@ -16,7 +16,7 @@ use Rattle.gv_vm.specs.declared.event.Reply.TheVariants.{Created}
 use Rattle.gv_vm.specs.Jobs.{many_fault}
 use Rattle.gv_vm.specs.declared.jobs.Access.{Access}
 use Rattle.gv_types.specs.declared.fault.Fault.TheVariants.{TooManyAccesses}
-use Rattle.gv_lines.specs.Chain.{all_read}
+use Rattle.gv_lines.specs.OptionSteps.{all_read}
 use Rattle.gv_lines.specs.Clause.{queue_asked, operations_of, waits_of, signals_of}
 use Rattle.gv_lines.specs.Grammar.{parsed}
 use Rattle.gv_lines.specs.declared.clause.Clause.{Clause}
@@ -25,10 +25,10 @@ use Rattle.gv_lines.specs.declared.line.Line.TheVariants as line
 use Rattle.gv_session.specs.declared.stage.Stage.{Stage}
 use Rattle.gv_session.specs.declared.stage.Stage.TheVariants.{Fresh, Bounded, Begun}
 use Rattle.gv_session.specs.State.{SessionState, Buffers, names_alone, buffer_named, timeline_named, empty_world, begun}
-use Rattle.gv_session.specs.Asking.{op_named, point_named, access_named, IsRequest}
+use Rattle.gv_session.specs.Requests.{op_named, point_named, access_named, IsRequest}
 use Rattle.gv_vm.specs.Plans.{Plan, once, serving, IsCarriedOut}
-use Rattle.gv_session.specs.Reply.{ok_reply, refused_reply, lines_reply, mapping_text, place_reply, tables_reply, number_reply, journal_reply}
-use Rattle.gv_session.specs.Said.{said, said_of_withdrawal, told, reply_out_of_memory, told_said, uses_said, plan_said}
+use Rattle.gv_session.specs.Texts.{ok_reply, refused_reply, lines_reply, mapping_text, place_reply, tables_reply, number_reply, journal_reply}
+use Rattle.gv_session.specs.ReplyTexts.{said, said_of_withdrawal, told, reply_out_of_memory, told_said, uses_said, plan_said}
 
 -- What a line wrote, and whether memory was refused to its request.
 pub record Written : Type 0 where
@@ -130,7 +130,7 @@ Runs (line.Timeline name) s w t =
     × (t ≡ record (begun s) { timelines = s.timelines ++ name ∷ [] })
 Runs (line.Raise point) s w t = Of (point_named s.timelines point) (λ p. DoesOnce (Raise p) s w t)
 Runs (line.Value name) s w t =
-    Of (timeline_named s.timelines name) (λ place. Answers (number_reply s.timelines place (slice_index s.world.numbers place)) s w t)
+    Of (timeline_named s.timelines name) (λ index. Answers (number_reply s.timelines index (slice_index s.world.numbers index)) s w t)
 Runs (line.Bind clauses) s w t = BindsRequest clauses s w t
 Runs (line.Plan operation) s w t =
     Of (op_named s.buffers operation) (λ op. Answers (plan_said (names_alone s.buffers) s.world.vm.space op) s w t)

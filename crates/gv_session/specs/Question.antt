@@ -1,4 +1,4 @@
--- What a question is answered, whatever stands beside the names and the address space.
+-- The answer to a question depends on the names and the address space alone.
 use Rattle.std.specs.Prelude.{ℕ, List}
 use Rattle.gv_vm.specs.State.{VmState}
 use Rattle.gv_lines.specs.declared.line.Line.{Line}

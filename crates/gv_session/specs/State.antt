@@ -23,7 +23,7 @@ abbrev pub names_alone : Buffers → List (List ℕ)
 names_alone buffers = map (λ entry. entry.0) buffers
 
 -- the declared names of buffers, and for how many more there is room
-pub record NamesState : Type 0 where
+pub record BufferNamesState : Type 0 where
   pub entries : Buffers
   pub room : ℕ
 
@@ -35,9 +35,9 @@ pub record TimelineNamesState : Type 0 where
 -- the buffer of a name, if it is declared
 abbrev pub buffer_named : Buffers → List ℕ → Option BufferId
 buffer_named buffers name =
-    option_and_then (λ place. option_map (λ entry. entry.1) (slice_get buffers place)) (position (bytes_eq name) (names_alone buffers))
+    option_and_then (λ index. option_map (λ entry. entry.1) (slice_get buffers index)) (position (bytes_eq name) (names_alone buffers))
 
--- the timeline of a name, if it is declared: that of its place
+-- the timeline of a name, if it is declared: that of its index
 abbrev pub timeline_named : List (List ℕ) → List ℕ → Option ℕ
 timeline_named names name = position (bytes_eq name) names
 

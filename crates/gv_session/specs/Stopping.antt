@@ -1,4 +1,4 @@
--- What a fault leaves of a line.
+-- How much of a line was done when it stopped with a fault.
 use Rattle.std.specs.Prelude.{◌≡◌, List, ◌⊎◌}
 use Rattle.gv_types.specs.declared.request.Request.{Request}
 use Rattle.gv_vm.specs.Plans.{Plan, serving, IsUnderWay}
@@ -9,7 +9,7 @@ use Rattle.gv_lines.specs.declared.line.Line.{Line}
 use Rattle.gv_lines.specs.declared.line.Line.TheVariants as line
 use Rattle.gv_session.specs.declared.fault.LineFault.{LineFault}
 use Rattle.gv_session.specs.declared.fault.LineFault.TheVariants.{Bad, OutOfMemory}
-use Rattle.gv_session.specs.Asking.{IsRequest}
+use Rattle.gv_session.specs.Requests.{IsRequest}
 use Rattle.gv_session.specs.Line.{Written, Runs}
 use Rattle.gv_session.specs.State.{SessionState, begun}
 

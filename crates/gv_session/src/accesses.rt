@@ -1,7 +1,7 @@
-//! What the words of a job's line ask for.
+//! The accesses that a `job` line asks for.
 ghost use Rattle.std.specs.Prelude.{◌≡◌, ◌↔◌, IsTrue, IfOk, map, length, ◌<◌};
 ghost use Rattle.gv_vm.specs.Jobs.{most_accesses};
-ghost use Rattle.gv_session.specs.Asking.{access_named};
+ghost use Rattle.gv_session.specs.Requests.{access_named};
 
 use gv_buffers::Usage;
 use gv_lines::{Access as NamedAccess, AccessList};
@@ -30,8 +30,8 @@ pub fn accesses_of(alloc: Global, accesses: AccessList<'_>) -> Result<Vec<Access
     ensures { IfOk result (λ list. list.items ≡ map access_named accesses.entry) }
 {
     let mut list = Vec::new(alloc);
-    let mut left = accesses;
-    while let Some(access) = left.take() {
+    let mut remaining = accesses;
+    while let Some(access) = remaining.take() {
         list.reserve(1)?;
         list.push_reserved(access_named(access));
     }
@@ -42,9 +42,9 @@ pub fn accesses_of(alloc: Global, accesses: AccessList<'_>) -> Result<Vec<Access
 pub fn are_too_many(accesses: &AccessList<'_>) -> bool
     ensures { IsTrue result ↔ most_accesses < length accesses.now }
 {
-    let mut left = accesses.again();
+    let mut remaining = accesses.again();
     for done in 0..=MAX_ACCESSES {
-        if left.take().is_none() {
+        if remaining.take().is_none() {
             return false;
         }
     }

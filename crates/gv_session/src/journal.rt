@@ -2,7 +2,7 @@
 ghost use Rattle.std.specs.Prelude.{◌≡◌, ◌+◌, ◌^◌, ◌<◌, ◌++◌, ◌||◌, ◌∷◌, [], ℕ, false, length, reverse, IfOk, OnOk, string_bytes, slice_index_or};
 ghost use Rattle.std.specs.List.{list_any};
 ghost use Rattle.gv_journal.specs.Items.{JournalState, names};
-ghost use Rattle.gv_session.specs.Reply.{reply, kind_text, liveness_text, journal_reply};
+ghost use Rattle.gv_session.specs.Texts.{reply, kind_text, liveness_text, journal_reply};
 
 use gv_journal::{Item, ItemKind};
 use gv_types::OutOfMemory;
@@ -79,8 +79,8 @@ pub fn write_journal(
         return Ok(out.push_str("empty\n")?);
     }
     let marks = withdrawn_among(alloc, first, items)?;
-    for (place, item) in items.iter().enumerate() {
-        write_item(out, first + place as u64, &item.kind, marks[place])?;
+    for (position, item) in items.iter().enumerate() {
+        write_item(out, first + position as u64, &item.kind, marks[position])?;
     }
     Ok(())
 }

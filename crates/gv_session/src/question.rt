@@ -1,18 +1,18 @@
-//! What is asked of an address space. Nothing changes.
+//! Answers the lines that only ask of an address space, such as `map` and `at`.
 ghost use Rattle.std.specs.Prelude.{◌≡◌, ◌≢◌, ◌<◌, ◌++◌, ℕ, List, Err, OnOk, string_bytes};
-ghost use Rattle.gv_session.specs.Reply.{journal_reply};
+ghost use Rattle.gv_session.specs.Texts.{journal_reply};
 ghost use Rattle.gv_vm.specs.Outcomes.{queues};
-ghost use Rattle.gv_session.specs.Said.{uses_said, plan_said, told_said};
+ghost use Rattle.gv_session.specs.ReplyTexts.{uses_said, plan_said, told_said};
 ghost use Rattle.gv_session.specs.State.{SessionState, names_alone};
 ghost use Rattle.gv_session.specs.Line.{IsGood};
 ghost use Rattle.gv_session.specs.Question.{IsQuestion, IsAnswer, with_vm};
 
+use crate::buffer_names::BufferNames;
 use crate::fault::LineFault;
 use crate::journal::write_journal;
-use crate::names::Names;
-use crate::reply::{write_mappings, write_place, write_steps, write_tables};
+use crate::reply_text::{write_refused, write_told};
 use crate::request::op_named;
-use crate::said::{write_refused, write_told};
+use crate::space_text::{write_mappings, write_place, write_steps, write_tables};
 use crate::timeline_names::TimelineNames;
 use gv_lines::Line;
 use gv_space::Space;
@@ -25,11 +25,11 @@ use std::fmt::Write;
 #[derive(Drop)]
 pub struct NamedVm<'a> {
     pub vm: &'a Vm,
-    pub buffers: &'a Names,
+    pub buffers: &'a BufferNames,
     pub timelines: &'a TimelineNames,
 }
 
-/// Writes the answer to a question, with these names. A line that asks nothing of an address space is let go.
+/// Writes the answer to a question, with these names. For any other line it writes nothing.
 pub fn answer(
     alloc: Global,
     question: &Line<'_>,
@@ -99,7 +99,7 @@ fn write_uses(out: &mut String, space: &Space, id: &BufferId) -> Result<(), Allo
 fn write_plan(
     alloc: Global,
     out: &mut String,
-    names: &Names,
+    names: &BufferNames,
     vm: &Vm,
     op: &Op,
 ) -> Result<(), OutOfMemory>

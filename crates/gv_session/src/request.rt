@@ -1,14 +1,14 @@
-//! What the words of a line ask for, with ids and timelines for names.
+//! Makes the request that the clauses of a line ask for: ids and timelines replace names.
 ghost use Rattle.std.specs.Prelude.{◌≡◌, ◌≢◌, ◌++◌, ◌∷◌, [], IfOk, OnOk, length, None};
 ghost use Rattle.gv_types.specs.Request.{Fits};
-ghost use Rattle.gv_lines.specs.Chain.{all_read};
+ghost use Rattle.gv_lines.specs.OptionSteps.{all_read};
 ghost use Rattle.gv_lines.specs.Clause.{queue_asked, operations_of, waits_of, signals_of};
-ghost use Rattle.gv_session.specs.Asking.{flags_of, op_named, point_named};
+ghost use Rattle.gv_session.specs.Requests.{flags_of, op_named, point_named};
 ghost use Rattle.gv_session.specs.Line.{AreDeclared};
-ghost use Rattle.gv_session.specs.Serving.{Adds, IsDeclared};
+ghost use Rattle.gv_session.specs.LineProgress.{Adds, IsDeclared};
 
+use crate::buffer_names::BufferNames;
 use crate::fault::LineFault;
-use crate::names::Names;
 use crate::timeline_names::TimelineNames;
 use gv_lines::{Clause, ClauseList, NamedPoint, Operation};
 use gv_types::{Flags, Op, OutOfMemory, Point, Request};
@@ -21,7 +21,7 @@ fn flags(read_only: bool) -> Flags
 }
 
 /// The operation with its buffer's id. None where the buffer's name is not declared.
-pub fn op_named(names: &Names, operation: &Operation) -> Option<Op>
+pub fn op_named(names: &BufferNames, operation: &Operation) -> Option<Op>
     ensures { result ≡ op_named names.now.entries operation.now }
 {
     match operation {
@@ -62,7 +62,7 @@ pub fn point_named(timelines: &TimelineNames, point: &NamedPoint) -> Option<Poin
     ensures { result ≡ point_named timelines.now.names point.now }
 {
     Some(Point {
-        timeline: timelines.place_of(&point.timeline)?,
+        timeline: timelines.index_of(&point.timeline)?,
         value: point.value,
     })
 }
@@ -108,7 +108,7 @@ impl Asked {
     /// Adds what one more clause asks for. Each name is looked for once.
     fn add(
         &mut self,
-        names: &Names,
+        names: &BufferNames,
         timelines: &TimelineNames,
         clause: &Clause,
     ) -> Result<(), LineFault>
@@ -141,7 +141,7 @@ impl Asked {
 /// is not declared.
 pub fn asked_by(
     alloc: Global,
-    names: &Names,
+    names: &BufferNames,
     timelines: &TimelineNames,
     clauses: &ClauseList<'_>,
 ) -> Result<(u64, Request), LineFault>
@@ -155,8 +155,8 @@ pub fn asked_by(
 {
     let mut asked = Asked::new(alloc);
     let mut has_memory = true;
-    let mut left = clauses.again();
-    while let Some(clause) = left.take() {
+    let mut remaining = clauses.again();
+    while let Some(clause) = remaining.take() {
         match asked.add(names, timelines, &clause) {
             Ok(()) => {}
             Err(LineFault::Bad) => return Err(LineFault::Bad),

@@ -5,16 +5,16 @@ ghost use Rattle.gv_lines.specs.declared.line.Line.TheVariants.{Silent};
 ghost use Rattle.gv_lines.specs.declared.line.Line.TheVariants as line;
 ghost use Rattle.gv_session.specs.Line.{Runs, RunsText, IsGood, IsGoodText, DoesOnce, SetsBounds, MaySetBounds};
 ghost use Rattle.gv_session.specs.Question.{IsQuestion};
-ghost use Rattle.gv_session.specs.Serving.{Wrote};
+ghost use Rattle.gv_session.specs.LineProgress.{Wrote};
 ghost use Rattle.gv_session.specs.Stopping.{Leaves, Loses};
 
 use crate::accesses::{accesses_of, are_too_many};
 use crate::caps::Caps;
 use crate::fault::LineFault;
 use crate::question::{NamedVm, answer};
+use crate::reply_text::{write_number, write_refused, write_said, write_withdrawn};
 use crate::request::{asked_by, point_named};
-use crate::said::{write_number, write_refused, write_said, write_withdrawn};
-use crate::serve::serve;
+use crate::run_request::run_request;
 use crate::session::Session;
 use crate::stage::Stage;
 use gv_lines::{AccessList, ClauseList, Line, Name, NamedPoint, parse_line};
@@ -51,7 +51,7 @@ pub fn run(
     ensures bad { result ≡ Err LineFault.Bad → ¬ IsGood line.entry session.old }
     ensures memory { result ≡ Err LineFault.OutOfMemory → IsGood line.entry session.old }
     ensures silent { line.entry ≡ Silent → IsOk result }
-    ensures left { IfErr result (Leaves line.entry session.old session.new) }
+    ensures stopped { IfErr result (Leaves line.entry session.old session.new) }
 {
     match line {
         Line::Silent => Ok(()),
@@ -75,11 +75,11 @@ pub fn run(
         Line::Raise { point } => raise(alloc, session, &point, out),
         Line::Value { name } => value(session, &name, out),
         Line::Bind { clauses } => bind(alloc, session, &clauses, out),
-        Line::Rewind => once(alloc, session, Event::Rewind, out),
+        Line::Rewind => run_event(alloc, session, Event::Rewind, out),
         Line::Withdraw { entry } => withdraw(alloc, session, entry, out),
-        Line::Settle { to } => once(alloc, session, Event::Settle { to }, out),
+        Line::Settle { to } => run_event(alloc, session, Event::Settle { to }, out),
         Line::Job { accesses } => job(alloc, session, accesses, out),
-        Line::End { job } => once(alloc, session, Event::JobEnd { job }, out),
+        Line::End { job } => run_event(alloc, session, Event::JobEnd { job }, out),
         question => ask(alloc, session, &question, out),
     }
 }
@@ -94,8 +94,8 @@ fn space(
     ensures done { OnOk result (Wrote (SetsBounds bounds) session.old out.old out.new session.new) }
     ensures bad { result ≡ Err LineFault.Bad → ¬ MaySetBounds bounds session.old }
     ensures memory { result ≡ Err LineFault.OutOfMemory → MaySetBounds bounds session.old }
-    ensures bad_left { result ≡ Err LineFault.Bad → session.new ≡ session.old }
-    ensures left { OnErr result (Loses (SetsBounds bounds) session.old session.new) }
+    ensures bad_stopped { result ≡ Err LineFault.Bad → session.new ≡ session.old }
+    ensures stopped { OnErr result (Loses (SetsBounds bounds) session.old session.new) }
 {
     match session.stage() {
         Stage::Fresh => {}
@@ -121,7 +121,7 @@ fn limits(
         → ¬ IsGood (line.Limits caps.buffers caps.mappings caps.items) session.old }
     ensures memory { result ≡ Err LineFault.OutOfMemory
         → IsGood (line.Limits caps.buffers caps.mappings caps.items) session.old }
-    ensures left { IfErr result
+    ensures stopped { IfErr result
         (Leaves (line.Limits caps.buffers caps.mappings caps.items) session.old session.new) }
 {
     if session.stage() == Stage::Begun {
@@ -145,7 +145,7 @@ fn buffer(
     ensures done { OnOk result (Wrote (Runs (line.Buffer name pages)) session.old out.old out.new session.new) }
     ensures bad { result ≡ Err LineFault.Bad → ¬ IsGood (line.Buffer name pages) session.old }
     ensures memory { result ≡ Err LineFault.OutOfMemory → IsGood (line.Buffer name pages) session.old }
-    ensures left { IfErr result (Leaves (line.Buffer name pages) session.old session.new) }
+    ensures stopped { IfErr result (Leaves (line.Buffer name pages) session.old session.new) }
 {
     if session.buffers().id_of(&name).is_some() {
         return Err(LineFault::Bad);
@@ -164,10 +164,10 @@ fn destroy(
     ensures done { OnOk result (Wrote (Runs (line.Destroy name.now)) session.old out.old out.new session.new) }
     ensures bad { result ≡ Err LineFault.Bad → ¬ IsGood (line.Destroy name.now) session.old }
     ensures memory { result ≡ Err LineFault.OutOfMemory → IsGood (line.Destroy name.now) session.old }
-    ensures left { IfErr result (Leaves (line.Destroy name.now) session.old session.new) }
+    ensures stopped { IfErr result (Leaves (line.Destroy name.now) session.old session.new) }
 {
     let id = session.buffers().id_of(name).ok_or(LineFault::Bad)?;
-    once(alloc, session, Event::Destroy { id }, out)
+    run_event(alloc, session, Event::Destroy { id }, out)
 }
 
 /// Declares the next timeline, unless its name is declared already or all are.
@@ -175,7 +175,7 @@ fn timeline(session: &mut Session, name: Name, out: &mut String) -> Result<(), L
     ensures done { OnOk result (Wrote (Runs (line.Timeline name)) session.old out.old out.new session.new) }
     ensures bad { result ≡ Err LineFault.Bad → ¬ IsGood (line.Timeline name) session.old }
     ensures memory { result ≡ Err LineFault.OutOfMemory → IsGood (line.Timeline name) session.old }
-    ensures left { IfErr result (Leaves (line.Timeline name) session.old session.new) }
+    ensures stopped { IfErr result (Leaves (line.Timeline name) session.old session.new) }
 {
     session.declare_timeline(name)?;
     Ok(out.push_str("ok\n")?)
@@ -191,10 +191,10 @@ fn raise(
     ensures done { OnOk result (Wrote (Runs (line.Raise point.now)) session.old out.old out.new session.new) }
     ensures bad { result ≡ Err LineFault.Bad → ¬ IsGood (line.Raise point.now) session.old }
     ensures memory { result ≡ Err LineFault.OutOfMemory → IsGood (line.Raise point.now) session.old }
-    ensures left { IfErr result (Leaves (line.Raise point.now) session.old session.new) }
+    ensures stopped { IfErr result (Leaves (line.Raise point.now) session.old session.new) }
 {
     let point = point_named(session.timelines(), point).ok_or(LineFault::Bad)?;
-    once(alloc, session, Event::Raise { point }, out)
+    run_event(alloc, session, Event::Raise { point }, out)
 }
 
 /// Writes the number of a timeline.
@@ -202,9 +202,9 @@ fn value(session: &mut Session, name: &Name, out: &mut String) -> Result<(), Lin
     ensures done { OnOk result (Wrote (Runs (line.Value name.now)) session.old out.old out.new session.new) }
     ensures bad { result ≡ Err LineFault.Bad → ¬ IsGood (line.Value name.now) session.old }
     ensures memory { result ≡ Err LineFault.OutOfMemory → IsGood (line.Value name.now) session.old }
-    ensures left { IfErr result (Leaves (line.Value name.now) session.old session.new) }
+    ensures stopped { IfErr result (Leaves (line.Value name.now) session.old session.new) }
 {
-    let timeline = session.timelines().place_of(name).ok_or(LineFault::Bad)?;
+    let timeline = session.timelines().index_of(name).ok_or(LineFault::Bad)?;
     session.begin();
     let number = session.world().clock().value(timeline);
     Ok(write_number(out, session.timelines(), timeline, number)?)
@@ -221,7 +221,7 @@ fn ask(
     ensures done { OnOk result (Wrote (Runs question.now) session.old out.old out.new session.new) }
     ensures bad { result ≡ Err LineFault.Bad → ¬ IsGood question.now session.old }
     ensures memory { result ≡ Err LineFault.OutOfMemory → IsGood question.now session.old }
-    ensures left { OnErr result (session.new ≡ session.old) }
+    ensures stopped { OnErr result (session.new ≡ session.old) }
 {
     let named = NamedVm {
         vm: session.world().vm(),
@@ -243,14 +243,14 @@ fn bind(
     ensures done { OnOk result (Wrote (Runs (line.Bind clauses.now)) session.old out.old out.new session.new) }
     ensures bad { result ≡ Err LineFault.Bad → ¬ IsGood (line.Bind clauses.now) session.old }
     ensures memory { result ≡ Err LineFault.OutOfMemory → IsGood (line.Bind clauses.now) session.old }
-    ensures left { IfErr result (Leaves (line.Bind clauses.now) session.old session.new) }
+    ensures stopped { IfErr result (Leaves (line.Bind clauses.now) session.old session.new) }
 {
     let asked = asked_by(alloc, session.buffers(), session.timelines(), clauses)?;
-    serve(alloc, session, asked.0, asked.1, out)
+    run_request(alloc, session, asked.0, asked.1, out)
 }
 
 /// One event of the world, and what it replies. Only want of memory is an error.
-pub fn once(
+pub fn run_event(
     alloc: Global,
     session: &mut Session,
     event: Event,
@@ -258,7 +258,7 @@ pub fn once(
 ) -> Result<(), LineFault>
     ensures done { OnOk result (Wrote (DoesOnce event) session.old out.old out.new session.new) }
     ensures memory { result ≢ Err LineFault.Bad }
-    ensures left { OnErr result (Loses (DoesOnce event) session.old session.new) }
+    ensures stopped { OnErr result (Loses (DoesOnce event) session.old session.new) }
 {
     let reply = session.step(alloc, event)?;
     Ok(write_said(out, session.buffers(), session.timelines(), &reply)?)
@@ -273,7 +273,7 @@ fn withdraw(
 ) -> Result<(), LineFault>
     ensures done { OnOk result (Wrote (Runs (line.Withdraw entry)) session.old out.old out.new session.new) }
     ensures memory { result ≢ Err LineFault.Bad }
-    ensures left { OnErr result (Loses (Runs (line.Withdraw entry)) session.old session.new) }
+    ensures stopped { OnErr result (Loses (Runs (line.Withdraw entry)) session.old session.new) }
 {
     let reply = session.step(alloc, Event::Withdraw { entry })?;
     Ok(write_withdrawn(out, entry, &reply)?)
@@ -288,12 +288,12 @@ fn job(
 ) -> Result<(), LineFault>
     ensures done { OnOk result (Wrote (Runs (line.Job accesses.entry)) session.old out.old out.new session.new) }
     ensures memory { result ≢ Err LineFault.Bad }
-    ensures left { OnErr result (Loses (Runs (line.Job accesses.entry)) session.old session.new) }
+    ensures stopped { OnErr result (Loses (Runs (line.Job accesses.entry)) session.old session.new) }
 {
     if are_too_many(&accesses) {
         session.begin();
         return Ok(write_refused(out, &Fault::TooManyAccesses)?);
     }
     let accesses = accesses_of(alloc, accesses)?;
-    once(alloc, session, Event::JobBegin { accesses }, out)
+    run_event(alloc, session, Event::JobBegin { accesses }, out)
 }

@@ -1,4 +1,4 @@
-//! What stands between two lines of a script.
+//! The state of a script between two lines: its settings, its world, its names.
 ghost use Rattle.std.specs.Prelude.{◌≡◌, ◌≢◌, ◌++◌, ◌∷◌, [], None, Err, false, IfOk, OnOk, OnErr, bytes_eq, length};
 ghost use Rattle.gv_sync.specs.Seats.{most_timelines};
 ghost use Rattle.gv_session.specs.Inside.{HasTimelines};
@@ -8,13 +8,13 @@ ghost use Rattle.gv_vm.specs.QueueTurns.{IsTurn};
 ghost use Rattle.gv_session.specs.Line.{declared, MayDeclare};
 ghost use Rattle.gv_session.specs.State.{start, begun, empty_world};
 
+use crate::buffer_names::BufferNames;
 use crate::fault::LineFault;
-use crate::names::Names;
 use crate::stage::Stage;
 use crate::timeline_names::{TIMELINES, TimelineNames};
 use gv_lines::Name;
 use gv_types::{Bounds, BufferId, Limits, OutOfMemory};
-use gv_vm::{Event, QUEUES, Reply, Sizes, Turn, World};
+use gv_vm::{Event, QUEUES, Reply, Sizes, TurnResult, World};
 use std::alloc::Global;
 use std::marker::Model;
 use std::mem;
@@ -27,7 +27,7 @@ const DEPTH: u64 = 65_536;
 pub struct Session {
     stage: Stage,
     world: World,
-    buffers: Names,
+    buffers: BufferNames,
     timelines: TimelineNames,
 }
 
@@ -50,7 +50,7 @@ impl Session {
         Ok(Session {
             stage: Stage::Fresh,
             world: empty_world(alloc, Bounds::whole(), Limits::full())?,
-            buffers: Names::new(alloc),
+            buffers: BufferNames::new(alloc),
             timelines: TimelineNames::new(alloc),
         })
     }
@@ -112,7 +112,7 @@ impl Session {
     }
 
     /// The names of the declared buffers.
-    pub fn buffers(&self) -> &Names
+    pub fn buffers(&self) -> &BufferNames
         ensures { result.now.entries ≡ self.now.buffers }
     {
         &self.buffers
@@ -140,7 +140,7 @@ impl Session {
     }
 
     /// A turn of a queue, whose request stays in hand where a wait lacks.
-    pub fn turn(&mut self, alloc: Global, queue: u64) -> Result<Turn, OutOfMemory>
+    pub fn turn(&mut self, alloc: Global, queue: u64) -> Result<TurnResult, OutOfMemory>
         ensures turn { IsTurn false queue self.old.world result self.new.world }
         ensures state { self.new ≡ record (begun self.old) { world = self.new.world } }
     {

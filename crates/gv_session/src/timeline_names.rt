@@ -13,7 +13,7 @@ use std::marker::Model;
 /// How many timelines there are.
 pub const TIMELINES: u64 = 64;
 
-/// The declared names, in the order of their lines: a timeline is the place of its name. A name is found by its hash.
+/// The declared names, in the order of their lines: a timeline is the index of its name. A name is found by its hash.
 #[derive(Drop)]
 pub struct TimelineNames {
     names: IndexSet<Name>,
@@ -45,13 +45,13 @@ impl TimelineNames {
     }
 
     /// The timeline of a name, if it is declared.
-    pub fn place_of(&self, name: &Name) -> Option<u64>
-        ensures place { result ≡ timeline_named self.now.names name.now }
+    pub fn index_of(&self, name: &Name) -> Option<u64>
+        ensures index { result ≡ timeline_named self.now.names name.now }
         ensures found { is_some result ≡ list_any (bytes_eq name.now) self.now.names }
-        ensures within { IfSome result (λ place. place < length self.now.names) }
+        ensures within { IfSome result (λ index. index < length self.now.names) }
     {
         match self.names.get_index_of(name) {
-            Some(place) => Some(place as u64),
+            Some(index) => Some(index as u64),
             None => None,
         }
     }
@@ -70,7 +70,7 @@ impl TimelineNames {
         ensures bad { result ≡ Err LineFault.Bad → ¬ MayDeclare self.old.names name }
         ensures memory { result ≢ Err LineFault.Bad → MayDeclare self.old.names name }
     {
-        if self.place_of(&name).is_some() || self.len() as u64 >= TIMELINES {
+        if self.index_of(&name).is_some() || self.len() as u64 >= TIMELINES {
             return Err(LineFault::Bad);
         }
         self.names.reserve(1)?;

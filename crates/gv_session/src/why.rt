@@ -1,11 +1,11 @@
-//! Why a line is not allowed at its place in its script.
-use crate::names::Names;
+//! Why a line of a script is bad.
+use crate::buffer_names::BufferNames;
 use crate::session::Session;
 use crate::stage::Stage;
 use crate::timeline_names::TimelineNames;
 use gv_lines::{
-    Found, Line, Mention, Mentions, Name, Place, Reason, Set, Setting, Slip, explain, no_such_line,
-    parse_line, word_at,
+    Found, Line, Mention, Mentions, Misplacement, Name, NameSet, Reason, Setting, Slip, explain,
+    no_such_line, parse_line, word_at,
 };
 use gv_types::{Bounds, MAX_BUFFERS, MAX_ITEMS, MAX_MAPPINGS, PAGE_BYTES};
 use std::alloc::Global;
@@ -14,7 +14,7 @@ use std::fmt::Write;
 /// The names that are declared. Where those of buffers are not known yet, each is taken as it should be.
 #[derive(Clone, Copy)]
 pub struct Declared<'n> {
-    pub buffers: Option<&'n Names>,
+    pub buffers: Option<&'n BufferNames>,
     pub timelines: &'n TimelineNames,
 }
 
@@ -39,7 +39,7 @@ pub fn why_misplaced<'a>(session: &Session, text: &'a [u8]) -> Slip<'a> {
 }
 
 /// Replaces the text by why a line is bad. The text is empty if out of memory.
-pub fn tell_why(why: &mut String, slip: &Slip<'_>) {
+pub fn write_why(why: &mut String, slip: &Slip<'_>) {
     why.clear();
     if write!(why, "{slip}").is_err() {
         why.clear();
@@ -57,14 +57,14 @@ pub fn why_not_set(stage: Stage, text: &[u8]) -> Option<Slip<'_>> {
         } => Some(if stage == Stage::Fresh {
             space_slip(text, [start, len, reserved_start, reserved_len])
         } else {
-            at_first_word(Place::SpaceFirst)
+            at_first_word(Misplacement::SpaceFirst)
         }),
         Line::Limits {
             buffers,
             mappings,
             items,
         } => Some(if stage == Stage::Begun {
-            at_first_word(Place::LimitsFirst)
+            at_first_word(Misplacement::LimitsFirst)
         } else {
             limits_slip(text, [buffers, mappings, items])
         }),
@@ -72,11 +72,11 @@ pub fn why_not_set(stage: Stage, text: &[u8]) -> Option<Slip<'_>> {
     }
 }
 
-/// A line is not allowed at its place.
-pub fn at_first_word(place: Place<'_>) -> Slip<'_> {
+/// A line is not allowed at its position.
+pub fn at_first_word(misplacement: Misplacement<'_>) -> Slip<'_> {
     Slip {
         column: 1,
-        reason: Reason::Place(place),
+        reason: Reason::Misplacement(misplacement),
     }
 }
 
@@ -94,8 +94,8 @@ fn space_slip(text: &[u8], numbers: [u64; 4]) -> Slip<'_> {
     } else {
         None
     };
-    let (place, setting) = if let Some((place, part)) = unaligned {
-        (place, Setting::Unaligned { part })
+    let (position, setting) = if let Some((position, part)) = unaligned {
+        (position, Setting::Unaligned { part })
     } else if len == 0 {
         (2, Setting::EmptySpace)
     } else if Bounds::from_bytes(start, len, 0, 0).is_none() {
@@ -103,24 +103,24 @@ fn space_slip(text: &[u8], numbers: [u64; 4]) -> Slip<'_> {
     } else {
         (3, Setting::Outside)
     };
-    at_word(text, place, setting)
+    at_word(text, position, setting)
 }
 
 /// What of a `limits` line cannot be set.
 fn limits_slip(text: &[u8], numbers: [u64; 3]) -> Slip<'_> {
     let [buffers, mappings, _] = numbers;
-    let (place, part, most) = if buffers == 0 || buffers > MAX_BUFFERS {
+    let (position, part, most) = if buffers == 0 || buffers > MAX_BUFFERS {
         (1, "BUFFERS", MAX_BUFFERS)
     } else if mappings == 0 || mappings > MAX_MAPPINGS {
         (2, "MAPPINGS", MAX_MAPPINGS)
     } else {
         (3, "ITEMS", MAX_ITEMS)
     };
-    at_word(text, place, Setting::OutOfRange { part, most })
+    at_word(text, position, Setting::OutOfRange { part, most })
 }
 
-fn at_word(text: &[u8], place: usize, setting: Setting) -> Slip<'_> {
-    match word_at(text, place) {
+fn at_word(text: &[u8], position: usize, setting: Setting) -> Slip<'_> {
+    match word_at(text, position) {
         Some(Found { word, column }) => Slip {
             column,
             reason: Reason::Setting { word, setting },
@@ -139,15 +139,15 @@ pub fn why_not_named<'a>(declared: Declared<'_>, text: &'a [u8]) -> Option<Slip<
     let mut mentions = Mentions::new(text);
     for _ in 0..text.len() {
         let Mention { set, name, column } = mentions.take()?;
-        let place = if declares {
+        let misplacement = if declares {
             declared.why_not_declared(set, name)
         } else {
             declared.why_not_used(set, name)
         };
-        if let Some(place) = place {
+        if let Some(misplacement) = misplacement {
             return Some(Slip {
                 column,
-                reason: Reason::Place(place),
+                reason: Reason::Misplacement(misplacement),
             });
         }
     }
@@ -156,23 +156,23 @@ pub fn why_not_named<'a>(declared: Declared<'_>, text: &'a [u8]) -> Option<Slip<
 
 impl Declared<'_> {
     /// Whether a name is declared, if that is known.
-    fn has(self, set: Set, word: &[u8]) -> Option<bool> {
+    fn has(self, set: NameSet, word: &[u8]) -> Option<bool> {
         let name = Name::from_word(word)?;
         match set {
-            Set::Buffers => Some(self.buffers?.id_of(&name).is_some()),
-            Set::Timelines => Some(self.timelines.place_of(&name).is_some()),
+            NameSet::Buffers => Some(self.buffers?.id_of(&name).is_some()),
+            NameSet::Timelines => Some(self.timelines.index_of(&name).is_some()),
         }
     }
 
-    fn why_not_used<'a>(self, set: Set, name: &'a [u8]) -> Option<Place<'a>> {
-        (!self.has(set, name)?).then_some(Place::Undeclared { set, name })
+    fn why_not_used<'a>(self, set: NameSet, name: &'a [u8]) -> Option<Misplacement<'a>> {
+        (!self.has(set, name)?).then_some(Misplacement::Undeclared { set, name })
     }
 
-    fn why_not_declared<'a>(self, set: Set, name: &'a [u8]) -> Option<Place<'a>> {
+    fn why_not_declared<'a>(self, set: NameSet, name: &'a [u8]) -> Option<Misplacement<'a>> {
         if self.has(set, name)? {
-            Some(Place::Declared { set, name })
-        } else if set == Set::Timelines {
-            Some(Place::ManyTimelines)
+            Some(Misplacement::Declared { set, name })
+        } else if set == NameSet::Timelines {
+            Some(Misplacement::ManyTimelines)
         } else {
             None
         }

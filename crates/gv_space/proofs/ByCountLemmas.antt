@@ -1,4 +1,4 @@
--- What stays where the counts of buffers change: ids, sizes, users, live buffers and placed mappings.
+-- What stays where the counts of buffers change: ids, sizes, users, live buffers and valid mappings.
 use Rattle.std.proofs.Common.{◌≡◌, ℕ, ◌+◌, ◌≤◌, List, refl, sym, ◌∙◌, ap, subst, Some, None, Option, is_some}
 use Rattle.std.specs.Option.{option_map, IsSomeAnd}
 use Rattle.std.specs.List.{All}
@@ -12,8 +12,8 @@ use Rattle.gv_buffers.specs.Buffers.{Buffer, BuffersState, buffer, pages, IsLive
 use Rattle.gv_buffers.proofs.FoundLemmas.{counted_lives}
 use Rattle.gv_space.specs.Counts.{count_of, by_count, counted, more_used, less_used, more_kept, less_kept, moved_out}
 use Rattle.gv_space.specs.Live.{IsLiveBacking}
-use Rattle.gv_space.specs.State.{LieInside, IsPlaced}
-use Rattle.gv_space.proofs.TableLemmas.{IsKeeping, buffer-each, pages-each, IsTable-each}
+use Rattle.gv_space.specs.State.{LieInside, IsValidMapping}
+use Rattle.gv_space.proofs.BufferTableLemmas.{IsKeeping, buffer-each, pages-each, IsTable-each}
 
 -- a change of a buffer by a number of mappings that leaves all but its counts
 pub record IsOfCounts (change : Buffer → ℕ → Buffer) : Type 0 where
@@ -85,33 +85,33 @@ pub LieInside-kept : (old new : BuffersState) (backing : Backing) (count : ℕ) 
 LieInside-kept old new (BufferPages id page) count same inside = subst (λ (o : Option ℕ). IsSomeAnd o (λ size. page + count ≤ size)) (sym same) inside
 LieInside-kept old new Zero count same inside = tt
 
--- and a mapping of it stays placed
-pub IsPlaced-kept : (a : BoundsState) (old new : BuffersState) (m : Mapping) → KeepsSize old new m.backing → IsPlaced a old m → IsPlaced a new m
-IsPlaced-kept a old new m same placed =
-    record { in_space = placed.in_space; off_region = placed.off_region; inside = LieInside-kept old new m.backing m.range.count same placed.inside }
+-- and a mapping of it stays valid
+pub IsValidMapping-kept : (a : BoundsState) (old new : BuffersState) (m : Mapping) → KeepsSize old new m.backing → IsValidMapping a old m → IsValidMapping a new m
+IsValidMapping-kept a old new m same valid =
+    record { in_space = valid.in_space; off_region = valid.off_region; inside = LieInside-kept old new m.backing m.range.count same valid.inside }
 
 -- as do all of a list where no size changes
-pub placed-kept : (a : BoundsState) (old new : BuffersState) (ms : List Mapping) → ((id : BufferId) → pages new id ≡ pages old id) → All (IsPlaced a old) ms → All (IsPlaced a new) ms
-placed-kept a old new ms same placed =
-    All-weaker (IsPlaced a old) (IsPlaced a new) (λ m h. IsPlaced-kept a old new m (KeepsSize-all old new m.backing same) h) ms placed
+pub valid-kept : (a : BoundsState) (old new : BuffersState) (ms : List Mapping) → ((id : BufferId) → pages new id ≡ pages old id) → All (IsValidMapping a old) ms → All (IsValidMapping a new) ms
+valid-kept a old new ms same valid =
+    All-weaker (IsValidMapping a old) (IsValidMapping a new) (λ m h. IsValidMapping-kept a old new m (KeepsSize-all old new m.backing same) h) ms valid
 
 pub LieInside-by_count : (change : Buffer → ℕ → Buffer) (ms : List Mapping) (t : BuffersState) (backing : Backing) (count : ℕ) → IsOfCounts change →
     LieInside t backing count → LieInside (by_count change ms t) backing count
 LieInside-by_count change ms t backing count of_counts inside =
     LieInside-kept t (by_count change ms t) backing count (KeepsSize-all t (by_count change ms t) backing (λ id. pages-by_count change ms t id of_counts)) inside
 
-pub placed-by_count : (change : Buffer → ℕ → Buffer) (ms : List Mapping) (a : BoundsState) (t : BuffersState) (xs : List Mapping) → IsOfCounts change →
-    All (IsPlaced a t) xs → All (IsPlaced a (by_count change ms t)) xs
-placed-by_count change ms a t xs of_counts placed = placed-kept a t (by_count change ms t) xs (λ id. pages-by_count change ms t id of_counts) placed
+pub valid-by_count : (change : Buffer → ℕ → Buffer) (ms : List Mapping) (a : BoundsState) (t : BuffersState) (xs : List Mapping) → IsOfCounts change →
+    All (IsValidMapping a t) xs → All (IsValidMapping a (by_count change ms t)) xs
+valid-by_count change ms a t xs of_counts valid = valid-kept a t (by_count change ms t) xs (λ id. pages-by_count change ms t id of_counts) valid
 
 IsLiveBacking-inside : (t : BuffersState) (backing : Backing) (count : ℕ) → LieInside t backing count → IsLiveBacking t backing
 IsLiveBacking-inside t (BufferPages id page) count inside = counted_lives t id (λ b. b.pages) (λ size. page + count ≤ size) inside
 IsLiveBacking-inside t Zero count inside = tt
 
--- a placed mapping is of a live buffer
-pub live_from_placed : (a : BoundsState) (t : BuffersState) (ms : List Mapping) → All (IsPlaced a t) ms → All (λ m. IsLiveBacking t m.backing) ms
-live_from_placed a t ms placed =
-    All-weaker (IsPlaced a t) (λ m. IsLiveBacking t m.backing) (λ m h. IsLiveBacking-inside t m.backing m.range.count h.inside) ms placed
+-- a valid mapping is of a live buffer
+pub live_from_placed : (a : BoundsState) (t : BuffersState) (ms : List Mapping) → All (IsValidMapping a t) ms → All (λ m. IsLiveBacking t m.backing) ms
+live_from_placed a t ms valid =
+    All-weaker (IsValidMapping a t) (λ m. IsLiveBacking t m.backing) (λ m h. IsLiveBacking-inside t m.backing m.range.count h.inside) ms valid
 
 -- what holds of each changed buffer holds in the changed table
 pub All-by_count : (P : Buffer → Type 0) (change : Buffer → ℕ → Buffer) (ms : List Mapping) (t : BuffersState) →

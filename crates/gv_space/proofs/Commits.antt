@@ -7,29 +7,29 @@ use Rattle.gv_types.specs.declared.mapping.Mapping.{Mapping}
 use Rattle.gv_ranges.specs.List.{AreEnded, IsLaidOut}
 use Rattle.gv_ranges.proofs.IndexLemmas.{met-ended}
 use Rattle.gv_ranges.specs.Edit.{Undo, clipped, replaced, undone}
-use Rattle.gv_ranges.proofs.KeptLemmas.{All-replaced}
+use Rattle.gv_ranges.proofs.AllReplacedLemmas.{All-replaced}
 use Rattle.gv_ranges.proofs.OrderLemmas.{laid_out-replaced}
 use Rattle.gv_ranges.proofs.ReplacedLemmas.{all_mappings, replaced_run_in_place, undone-replaced}
 use Rattle.gv_ranges.proofs.RestLemmas.{laid_out-take, laid_out-drop}
 use Rattle.gv_table.specs.Reads.{AreAlikeOutside}
-use Rattle.gv_table.specs.declared.tables.Tables.{Tables}
+use Rattle.gv_table.specs.declared.kind_counts.KindCounts.{KindCounts}
 use Rattle.gv_table.specs.Table.{IsTree, gained_by}
 use Rattle.gv_table.specs.declared.page_table.PageTable.{PageTable}
 use Rattle.gv_table.proofs.EditLemmas.{replaced-alike, replaced-pieces}
 use Rattle.gv_buffers.specs.Buffers.{BuffersState}
-use Rattle.gv_space.specs.Mapped.{MappedState}
+use Rattle.gv_space.specs.ListWithTable.{ListWithTableState}
 use Rattle.gv_space.specs.Counts.{by_count, counted, more_used, less_used, more_kept}
-use Rattle.gv_space.specs.State.{SpaceState, IsSpace, IsPlaced, AreKept}
+use Rattle.gv_space.specs.State.{SpaceState, IsSpace, IsValidMapping, AreKept}
 use Rattle.gv_space.specs.Undo.{OpUndoState, IsUndoOf}
 use Rattle.gv_space.specs.Change.{changed_to, IsChanged}
 use Rattle.gv_space.specs.Ready.{IsReady}
-use Rattle.gv_space.proofs.Lengths.{length-splice}
-use Rattle.gv_space.proofs.Placed.{placed_pieces}
+use Rattle.gv_space.proofs.RestoredLengths.{length-splice}
+use Rattle.gv_space.proofs.ValidPieces.{placed_pieces}
 use Rattle.gv_space.proofs.Recounted.{moved_counts}
 use Rattle.gv_space.proofs.KeptLemmas.{All-taken, AreKept-changed_room, reverted-changed_room}
 use Rattle.gv_space.proofs.ByCountLemmas.{more_used_of_counts, less_used_of_counts, more_kept_of_counts}
 use Rattle.gv_space.proofs.LiveNames.{LivedIn, lived-by_count}
-use Rattle.gv_space.proofs.Spaces.{IsSpace-changed, IsSpace-room}
+use Rattle.gv_space.proofs.SpaceInvariant.{IsSpace-changed, IsSpace-room}
 
 -- who lives after the change lived before it
 pub lived_after : (taken pieces : List Mapping) (t : BuffersState) → LivedIn t (by_count less_used taken (by_count more_used pieces (by_count more_kept taken t)))
@@ -60,8 +60,8 @@ module _ (inside : List Mapping) (s : SpaceState) (range : PageRangeState) (inde
   pub after_pieces : clipped range.first (end_of range) after ≡ inside
   after_pieces = rw after_is (replaced-pieces s.mappings inside range space.laid_out ready.sorted ready.lie)
 
-  pub taken_placed : All (IsPlaced s.area s.buffers) taken
-  taken_placed = All-taken (IsPlaced s.area s.buffers) s.mappings taken index (length taken) ready.taken_is space.placed
+  pub taken_placed : All (IsValidMapping s.area s.buffers) taken
+  taken_placed = All-taken (IsValidMapping s.area s.buffers) s.mappings taken index (length taken) ready.taken_is space.valid
 
   pub taken_laid_out : IsLaidOut taken
   taken_laid_out = subst IsLaidOut (sym ready.taken_is) (laid_out-take (drop index s.mappings) 0 (length taken) (laid_out-drop s.mappings 0 index space.laid_out))
@@ -69,22 +69,22 @@ module _ (inside : List Mapping) (s : SpaceState) (range : PageRangeState) (inde
   mappings_of : All IsMapping s.mappings
   mappings_of = all_mappings s.mappings 0 space.laid_out
 
-  pub pieces_placed : All (IsPlaced s.area s.buffers) pieces
+  pub pieces_placed : All (IsValidMapping s.area s.buffers) pieces
   pieces_placed =
-      subst (All (IsPlaced s.area s.buffers)) (sym ready.pieces_are)
-      (All-replaced (IsPlaced s.area s.buffers) taken range inside (placed_pieces s.area s.buffers)
-      (All-taken IsMapping s.mappings taken index (length taken) ready.taken_is mappings_of) taken_placed ready.placed)
+      subst (All (IsValidMapping s.area s.buffers)) (sym ready.pieces_are)
+      (All-replaced (IsValidMapping s.area s.buffers) taken range inside (placed_pieces s.area s.buffers)
+      (All-taken IsMapping s.mappings taken index (length taken) ready.taken_is mappings_of) taken_placed ready.valid)
 
-  pub after_placed : All (IsPlaced s.area s.buffers) after
+  pub after_placed : All (IsValidMapping s.area s.buffers) after
   after_placed =
-      subst (All (IsPlaced s.area s.buffers)) (sym after_is)
-      (All-replaced (IsPlaced s.area s.buffers) s.mappings range inside (placed_pieces s.area s.buffers) mappings_of space.placed ready.placed)
+      subst (All (IsValidMapping s.area s.buffers)) (sym after_is)
+      (All-replaced (IsValidMapping s.area s.buffers) s.mappings range inside (placed_pieces s.area s.buffers) mappings_of space.valid ready.valid)
 
   pub pieces_are_few : length pieces ≤ length after
   pieces_are_few = omega (arith, length-splice s.mappings pieces index (length taken) ready.met.within, ready.met.within)
 
   -- what the parts of the space are after the change
-  pub state_after : (list : MappedState) (buffers : BuffersState) (count : ℕ) → list.mappings ≡ after → buffers ≡ by_count less_used taken (by_count more_used pieces (by_count more_kept taken s.buffers)) → count ≡ length taken →
+  pub state_after : (list : ListWithTableState) (buffers : BuffersState) (count : ℕ) → list.mappings ≡ after → buffers ≡ by_count less_used taken (by_count more_used pieces (by_count more_kept taken s.buffers)) → count ≡ length taken →
       record s { mappings = list.mappings; room = list.room; buffers = buffers; kept_count = s.kept_count + count } ≡ record (changed_to after taken s) { room = list.room }
   state_after list buffers count list_is buffers_is count_is =
       let tables : buffers ≡ by_count counted after (by_count more_kept taken s.buffers) =
@@ -104,7 +104,7 @@ module _ (inside : List Mapping) (s : SpaceState) (range : PageRangeState) (inde
   undone_after =
       rw (after_is, ready.pieces_are) (rw (← ready.taken_is) at (undone-replaced s.mappings range inside index (length taken) space.laid_out ready.met))
 
-  undo_after : (tables : Tables) → ((table : PageTable) → IsTree after table → gained_by s.mappings table ≡ tables) →
+  undo_after : (tables : KindCounts) → ((table : PageTable) → IsTree after table → gained_by s.mappings table ≡ tables) →
       IsUndoOf s.mappings after (record { change = change_of; range = range; tables = tables })
   undo_after tables owed = record {
     laid_out = space.laid_out;
@@ -118,7 +118,7 @@ module _ (inside : List Mapping) (s : SpaceState) (range : PageRangeState) (inde
     tables = owed;
   }
 
-  pub change_is : (new : SpaceState) (tables : Tables) → new ≡ record (changed_to after taken s) { room = new.room } → s.room ≤ new.room →
+  pub change_is : (new : SpaceState) (tables : KindCounts) → new ≡ record (changed_to after taken s) { room = new.room } → s.room ≤ new.room →
       ((table : PageTable) → IsTree after table → gained_by s.mappings table ≡ tables) →
       IsChanged s new after (record { change = change_of; range = range; tables = tables })
   change_is new tables is room owed =

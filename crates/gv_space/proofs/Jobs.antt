@@ -8,9 +8,9 @@ use Rattle.gv_types.specs.declared.mapping.Mapping.{Mapping}
 use Rattle.gv_buffers.specs.declared.usage.Usage.{Usage}
 use Rattle.gv_buffers.specs.Buffers.{Buffer, BuffersState, has_id, only, changed, joined_by, left_by, left_everywhere}
 use Rattle.gv_space.specs.Counts.{count_of}
-use Rattle.gv_space.specs.State.{SpaceState, IsPlaced, AreKept}
-use Rattle.gv_space.proofs.TableLemmas.{each, IsKeeping, pages-each}
-use Rattle.gv_space.proofs.ByCountLemmas.{placed-kept}
+use Rattle.gv_space.specs.State.{SpaceState, IsValidMapping, AreKept}
+use Rattle.gv_space.proofs.BufferTableLemmas.{each, IsKeeping, pages-each}
+use Rattle.gv_space.proofs.ByCountLemmas.{valid-kept}
 use Rattle.gv_space.proofs.Recounted.{UsesAre, KeptAre}
 
 -- a change of a buffer that leaves its id, its size and its counts
@@ -34,9 +34,9 @@ joined_of_users id job usage = record {
 pub left_of_users : (job : ℕ) → IsOfUsers (left_by job)
 left_of_users job = record { keeping = record { id = λ b. refl; pages = λ b. refl }; uses = λ b. refl; kept = λ b. refl }
 
--- mappings stay placed
-pub placed_used : (f : Buffer → Buffer) (a : BoundsState) (t : BuffersState) (ms : List Mapping) → IsOfUsers f → All (IsPlaced a t) ms → All (IsPlaced a (each f t)) ms
-placed_used f a t ms of_users placed = placed-kept a t (each f t) ms (λ id. pages-each f t id of_users.keeping) placed
+-- mappings stay valid
+pub placed_used : (f : Buffer → Buffer) (a : BoundsState) (t : BuffersState) (ms : List Mapping) → IsOfUsers f → All (IsValidMapping a t) ms → All (IsValidMapping a (each f t)) ms
+placed_used f a t ms of_users valid = valid-kept a t (each f t) ms (λ id. pages-each f t id of_users.keeping) valid
 
 same_count : (ms : List Mapping) (x y : BufferId) (m n : ℕ) → x ≡ y → m ≡ n → n ≡ count_of y ms → m ≡ count_of x ms
 same_count ms x y m n ids counts is = counts ∙ is ∙ ap (λ (i : BufferId). count_of i ms) (sym ids)
@@ -55,7 +55,7 @@ kept_used f t saved of_users kept =
 -- undo values hold what they held
 AreKept-used : (f : Buffer → Buffer) (s : SpaceState) (saved : List Mapping) → IsOfUsers f → AreKept s saved → AreKept (record s { buffers = each f s.buffers }) saved
 AreKept-used f s saved of_users are_kept = record {
-  placed = placed_used f s.area s.buffers saved of_users are_kept.placed;
+  valid = placed_used f s.area s.buffers saved of_users are_kept.valid;
   kept = kept_used f s.buffers saved of_users are_kept.kept;
   kept_count = are_kept.kept_count;
 }

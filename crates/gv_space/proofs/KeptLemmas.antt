@@ -11,11 +11,11 @@ use Rattle.gv_ranges.specs.List.{run}
 use Rattle.gv_ranges.specs.Edit.{undone}
 use Rattle.gv_buffers.specs.Buffers.{BuffersState, IsTable}
 use Rattle.gv_space.specs.Counts.{count_of, by_count, counted, more_kept, less_kept}
-use Rattle.gv_space.specs.State.{SpaceState, IsPlaced, AreKept}
+use Rattle.gv_space.specs.State.{SpaceState, IsValidMapping, AreKept}
 use Rattle.gv_space.specs.Undo.{OpUndoState, released, reverted}
 use Rattle.gv_space.specs.Change.{changed_to}
 use Rattle.gv_space.specs.Laws.{KeptInAnyOrder}
-use Rattle.gv_space.proofs.ByCountLemmas.{counted_of_counts, more_kept_of_counts, less_kept_of_counts, placed-by_count, IsTable-by_count}
+use Rattle.gv_space.proofs.ByCountLemmas.{counted_of_counts, more_kept_of_counts, less_kept_of_counts, valid-by_count, IsTable-by_count}
 use Rattle.gv_space.proofs.Recounted.{UsesAre, there_and_back, kept-counted, kept-more_kept, kept-less_kept}
 
 -- the tables of `changed_to`, `reverted` and `released`
@@ -38,17 +38,17 @@ reverted_is_table before taken t table = IsTable-by_count counted before _ count
 pub released_is_table : (taken : List Mapping) (t : BuffersState) → IsTable t → IsTable (released_table taken t)
 released_is_table taken t table = IsTable-by_count less_kept taken t less_kept_of_counts table
 
--- and placed mappings stay placed
-pub placed_changed : (ms taken : List Mapping) (a : BoundsState) (t : BuffersState) (xs : List Mapping) → All (IsPlaced a t) xs → All (IsPlaced a (changed_table ms taken t)) xs
-placed_changed ms taken a t xs placed =
-    placed-by_count counted ms a (by_count more_kept taken t) xs counted_of_counts (placed-by_count more_kept taken a t xs more_kept_of_counts placed)
+-- and valid mappings stay valid
+pub placed_changed : (ms taken : List Mapping) (a : BoundsState) (t : BuffersState) (xs : List Mapping) → All (IsValidMapping a t) xs → All (IsValidMapping a (changed_table ms taken t)) xs
+placed_changed ms taken a t xs valid =
+    valid-by_count counted ms a (by_count more_kept taken t) xs counted_of_counts (valid-by_count more_kept taken a t xs more_kept_of_counts valid)
 
-pub placed_reverted : (before taken : List Mapping) (a : BoundsState) (t : BuffersState) (xs : List Mapping) → All (IsPlaced a t) xs → All (IsPlaced a (reverted_table before taken t)) xs
-placed_reverted before taken a t xs placed =
-    placed-by_count counted before a (by_count less_kept taken t) xs counted_of_counts (placed-by_count less_kept taken a t xs less_kept_of_counts placed)
+pub placed_reverted : (before taken : List Mapping) (a : BoundsState) (t : BuffersState) (xs : List Mapping) → All (IsValidMapping a t) xs → All (IsValidMapping a (reverted_table before taken t)) xs
+placed_reverted before taken a t xs valid =
+    valid-by_count counted before a (by_count less_kept taken t) xs counted_of_counts (valid-by_count less_kept taken a t xs less_kept_of_counts valid)
 
-pub placed_released : (taken : List Mapping) (a : BoundsState) (t : BuffersState) (xs : List Mapping) → All (IsPlaced a t) xs → All (IsPlaced a (released_table taken t)) xs
-placed_released taken a t xs placed = placed-by_count less_kept taken a t xs less_kept_of_counts placed
+pub placed_released : (taken : List Mapping) (a : BoundsState) (t : BuffersState) (xs : List Mapping) → All (IsValidMapping a t) xs → All (IsValidMapping a (released_table taken t)) xs
+placed_released taken a t xs valid = valid-by_count less_kept taken a t xs less_kept_of_counts valid
 
 -- how many of two lists are of a buffer
 count_of-append : (id : BufferId) (xs ys : List Mapping) → count_of id (xs ++ ys) ≡ count_of id xs + count_of id ys
@@ -78,10 +78,10 @@ All-splice P ms pieces index past all new =
     All-append P (take index ms) (pieces ++ drop past ms) (All-take P index ms all) (All-append P pieces (drop past ms) new (All-drop P past ms all))
 
 -- what a change took out is held beside the rest
-pub AreKept-changed : (s : SpaceState) (ms taken saved : List Mapping) → All (IsPlaced s.area s.buffers) taken → AreKept s saved →
+pub AreKept-changed : (s : SpaceState) (ms taken saved : List Mapping) → All (IsValidMapping s.area s.buffers) taken → AreKept s saved →
     AreKept (changed_to ms taken s) (taken ++ saved)
-AreKept-changed s ms taken saved placed are_kept = record {
-  placed = placed_changed ms taken s.area s.buffers (taken ++ saved) (All-append (IsPlaced s.area s.buffers) taken saved placed are_kept.placed);
+AreKept-changed s ms taken saved valid are_kept = record {
+  valid = placed_changed ms taken s.area s.buffers (taken ++ saved) (All-append (IsValidMapping s.area s.buffers) taken saved valid are_kept.valid);
   kept = kept-counted (taken ++ saved) ms (by_count more_kept taken s.buffers) (kept-more_kept taken saved s.buffers are_kept.kept);
   kept_count = omega (arith, are_kept.kept_count, length-append taken saved);
 }
@@ -89,10 +89,10 @@ AreKept-changed s ms taken saved placed are_kept = record {
 -- what is held may stand in another order
 pub kept_in_any_order : KeptInAnyOrder
 kept_in_any_order s newer taken older are_kept =
-    let P : Mapping → Type 0 = IsPlaced s.area s.buffers in
-    let rest : All P (taken ++ older) = All-back P newer (taken ++ older) are_kept.placed in
+    let P : Mapping → Type 0 = IsValidMapping s.area s.buffers in
+    let rest : All P (taken ++ older) = All-back P newer (taken ++ older) are_kept.valid in
     record {
-      placed = All-append P taken (newer ++ older) (All-front P taken older rest) (All-append P newer older (All-front P newer (taken ++ older) are_kept.placed) (All-back P taken older rest));
+      valid = All-append P taken (newer ++ older) (All-front P taken older rest) (All-append P newer older (All-front P newer (taken ++ older) are_kept.valid) (All-back P taken older rest));
       kept = All-weaker (λ b. b.kept ≡ count_of b.id (newer ++ (taken ++ older))) (λ b. b.kept ≡ count_of b.id (taken ++ (newer ++ older))) (λ b h. h ∙ count_of-moved b.id newer taken older) s.buffers.live are_kept.kept;
       kept_count = omega (arith, are_kept.kept_count, length-append newer (taken ++ older), length-append taken older, length-append taken (newer ++ older), length-append newer older);
     }
@@ -100,7 +100,7 @@ kept_in_any_order s newer taken older are_kept =
 -- once its mappings are given up, the others are held
 pub AreKept-released : (s : SpaceState) (taken others : List Mapping) → AreKept s (taken ++ others) → AreKept (released s taken) others
 AreKept-released s taken others are_kept = record {
-  placed = placed_released taken s.area s.buffers others (All-back (IsPlaced s.area s.buffers) taken others are_kept.placed);
+  valid = placed_released taken s.area s.buffers others (All-back (IsValidMapping s.area s.buffers) taken others are_kept.valid);
   kept = kept-less_kept taken others s.buffers are_kept.kept;
   kept_count = omega (arith, are_kept.kept_count, length-append taken others);
 }
@@ -111,24 +111,24 @@ AreKept-reverted s u others are_kept =
     let taken : List Mapping = u.change.taken in
     let before : List Mapping = undone s.mappings u.change in
     record {
-      placed = placed_reverted before taken s.area s.buffers others (All-back (IsPlaced s.area s.buffers) taken others are_kept.placed);
+      valid = placed_reverted before taken s.area s.buffers others (All-back (IsValidMapping s.area s.buffers) taken others are_kept.valid);
       kept = kept-counted others before (by_count less_kept taken s.buffers) (kept-less_kept taken others s.buffers are_kept.kept);
       kept_count = omega (arith, are_kept.kept_count, length-append taken others);
     }
 
 -- room says nothing of what is held
 pub AreKept-room : (s : SpaceState) (room : ℕ) (saved : List Mapping) → AreKept s saved → AreKept (record s { room = room }) saved
-AreKept-room s room saved are_kept = record { placed = are_kept.placed; kept = are_kept.kept; kept_count = are_kept.kept_count }
+AreKept-room s room saved are_kept = record { valid = are_kept.valid; kept = are_kept.kept; kept_count = are_kept.kept_count }
 
 pub AreKept-room_alone : (old new : SpaceState) (saved : List Mapping) → new ≡ record old { room = new.room } → AreKept old saved → AreKept new saved
 AreKept-room_alone old new saved is are_kept = subst (λ (s : SpaceState). AreKept s saved) (sym is) (AreKept-room old new.room saved are_kept)
 
 -- a change, with the room that it left
 pub AreKept-changed_room : (old new : SpaceState) (ms taken saved : List Mapping) → new ≡ record (changed_to ms taken old) { room = new.room } →
-    All (IsPlaced old.area old.buffers) taken → AreKept old saved → AreKept new (taken ++ saved)
-AreKept-changed_room old new ms taken saved state placed are_kept =
+    All (IsValidMapping old.area old.buffers) taken → AreKept old saved → AreKept new (taken ++ saved)
+AreKept-changed_room old new ms taken saved state valid are_kept =
     subst (λ (s : SpaceState). AreKept s (taken ++ saved)) (sym state)
-    (AreKept-room (changed_to ms taken old) new.room (taken ++ saved) (AreKept-changed old ms taken saved placed are_kept))
+    (AreKept-room (changed_to ms taken old) new.room (taken ++ saved) (AreKept-changed old ms taken saved valid are_kept))
 
 -- To undo a change gives the space before it.
 pub reverted-changed : (old : SpaceState) (ms : List Mapping) (room : ℕ) (u : OpUndoState) → UsesAre old.mappings old.buffers → undone ms u.change ≡ old.mappings →

@@ -1,4 +1,4 @@
--- The names of live buffers: who lives after a call lived before it, or was made by it, and placed mappings are of named ones.
+-- The names of live buffers: who lives after a call lived before it, or was made by it, and valid mappings are of named ones.
 use Rattle.std.proofs.Common.{◌≡◌, ◌≢◌, ℕ, ◌+◌, ◌≤◌, List, [], ◌∷◌, filter, Bool, true, false, cond, not, arith, refl, sym, ◌∙◌, ap, subst, Some, Option, IsSome, is_some, slice_get, slice_index_or}
 use Rattle.std.specs.Option.{option_map, IsSomeAnd}
 use Rattle.std.specs.List.{All, find}
@@ -11,12 +11,12 @@ use Rattle.gv_types.specs.declared.mapping.BufferId.{BufferId}
 use Rattle.gv_types.specs.declared.mapping.Mapping.{Mapping}
 use Rattle.gv_buffers.specs.Buffers.{Buffer, BuffersState, buffer, has_id, without, IsLive, IsBuffer, IsCreated, IsTable}
 use Rattle.gv_buffers.proofs.FoundLemmas.{others_stay_made, is_same_id-itself}
-use Rattle.gv_table.specs.Names.{IsNamed, AreNamed}
+use Rattle.gv_table.specs.BufferNames.{IsNamed, AreNamed}
 use Rattle.gv_space.specs.Counts.{count_of, by_count}
-use Rattle.gv_space.specs.Mapped.{AreLiveNamed, IsApart, AreApart}
-use Rattle.gv_space.specs.State.{LieInside, IsPlaced}
+use Rattle.gv_space.specs.ListWithTable.{AreLiveNamed, IsApart, AreApart}
+use Rattle.gv_space.specs.State.{LieInside, IsValidMapping}
 use Rattle.gv_space.proofs.CountLemmas.{same_from_is_same_id}
-use Rattle.gv_space.proofs.TableLemmas.{each, buffer-each, found_live}
+use Rattle.gv_space.proofs.BufferTableLemmas.{each, buffer-each, found_live}
 use Rattle.gv_space.proofs.ByCountLemmas.{IsOfCounts, is_some-map}
 use Rattle.gv_space.proofs.LivesLemmas.{inside_is_live}
 
@@ -55,11 +55,11 @@ apart_inside : (t : BuffersState) (index : ℕ) (backing : Backing) (count : ℕ
 apart_inside t index (BufferPages id page) count free inside = apart_live t index id free (inside_is_live t id page count inside)
 apart_inside t index Zero count free inside = tt
 
--- no placed mapping has it
-pub apart_placed : (a : BoundsState) (t : BuffersState) (index : ℕ) (ms : List Mapping) → All (λ b. b.id.index ≢ index) t.live → All (IsPlaced a t) ms → AreApart index ms
-apart_placed a t index ms free placed k d within =
+-- no valid mapping has it
+pub apart_placed : (a : BoundsState) (t : BuffersState) (index : ℕ) (ms : List Mapping) → All (λ b. b.id.index ≢ index) t.live → All (IsValidMapping a t) ms → AreApart index ms
+apart_placed a t index ms free valid k d within =
     let m : Mapping = slice_index_or ms k d in
-    apart_inside t index m.backing m.range.count free (placed k d within).inside
+    apart_inside t index m.backing m.range.count free (valid k d within).inside
 
 -- a buffer was made, and its index was named
 pub named_made : (old new : BuffersState) (id : BufferId) (size : ℕ) (before names : List BufferId) → IsCreated old new id size → AreLiveNamed old before → slice_get names id.index ≡ Some id →
@@ -84,8 +84,8 @@ named_inside t names (BufferPages id page) count table named inside =
     (named id lives, omega (arith, within, found.holds.few_pages))
 named_inside t names Zero count table named inside = tt
 
--- placed mappings are of named buffers
-pub named_placed : (a : BoundsState) (t : BuffersState) (names : List BufferId) (ms : List Mapping) → IsTable t → AreLiveNamed t names → All (IsPlaced a t) ms → AreNamed names ms
-named_placed a t names ms table named placed k d within =
+-- valid mappings are of named buffers
+pub named_placed : (a : BoundsState) (t : BuffersState) (names : List BufferId) (ms : List Mapping) → IsTable t → AreLiveNamed t names → All (IsValidMapping a t) ms → AreNamed names ms
+named_placed a t names ms table named valid k d within =
     let m : Mapping = slice_index_or ms k d in
-    named_inside t names m.backing m.range.count table named (placed k d within).inside
+    named_inside t names m.backing m.range.count table named (valid k d within).inside

@@ -1,4 +1,4 @@
--- Buffers are made and destroyed: the mappings stay placed, and the counts stay right.
+-- Buffers are made and destroyed: the mappings stay valid, and the counts stay right.
 use Rattle.std.proofs.Common.{◌≡◌, ◌≢◌, ℕ, zero, suc, ◌+◌, ◌<◌, ◌≤◌, List, [], ◌∷◌, length, get_or, take, drop, Bool, true, false, cond, not, ltb, eqb, arith, refl, sym, ◌∙◌, ap, subst, Some, None, Option, IsSome, filter}
 use Rattle.std.specs.Option.{option_map}
 use Rattle.std.specs.List.{All, AllPairs}
@@ -17,10 +17,10 @@ use Rattle.gv_buffers.specs.Buffers.{Buffer, BuffersState, buffer, has_id, fresh
 use Rattle.gv_buffers.proofs.FoundLemmas.{live_of_made, others_stay_made, others_stay_destroyed, is_same_id-itself, is_same_id-other}
 use Rattle.gv_buffers.proofs.FoundLemmas.{counted_lives}
 use Rattle.gv_space.specs.Counts.{count_of}
-use Rattle.gv_space.specs.State.{SpaceState, LieInside, IsPlaced, AreKept}
+use Rattle.gv_space.specs.State.{SpaceState, LieInside, IsValidMapping, AreKept}
 use Rattle.gv_space.proofs.CountLemmas.{same_from_is_same_id, count_of-none, none_from_count_of}
-use Rattle.gv_space.proofs.TableLemmas.{found_live, IsFound}
-use Rattle.gv_space.proofs.ByCountLemmas.{KeepsSize, IsPlaced-kept}
+use Rattle.gv_space.proofs.BufferTableLemmas.{found_live, IsFound}
+use Rattle.gv_space.proofs.ByCountLemmas.{KeepsSize, IsValidMapping-kept}
 use Rattle.gv_space.proofs.Recounted.{UsesAre, KeptAre}
 
 abbrev IsBelow : Buffer → Buffer → Type 0
@@ -46,17 +46,17 @@ fresh_is_not_of old new id size (BufferPages other page) count made inside =
     is_same_id-other other id (λ same. fresh_is_apart old new id other size made (inside_is_live old other page count inside) (sym same))
 fresh_is_not_of old new id size Zero count made inside = refl
 
--- mappings stay placed where a buffer is made
-pub placed_made : (a : BoundsState) (old new : BuffersState) (id : BufferId) (size : ℕ) (ms : List Mapping) → IsCreated old new id size → All (IsPlaced a old) ms → All (IsPlaced a new) ms
-placed_made a old new id size ms made placed k d within =
+-- mappings stay valid where a buffer is made
+pub placed_made : (a : BoundsState) (old new : BuffersState) (id : BufferId) (size : ℕ) (ms : List Mapping) → IsCreated old new id size → All (IsValidMapping a old) ms → All (IsValidMapping a new) ms
+placed_made a old new id size ms made valid k d within =
     let m : Mapping = get_or ms k d in
-    let was : IsPlaced a old m = placed k d within in
-    IsPlaced-kept a old new m (KeepsSize-made old new id size m.backing m.range.count made was.inside) was
+    let was : IsValidMapping a old m = valid k d within in
+    IsValidMapping-kept a old new m (KeepsSize-made old new id size m.backing m.range.count made was.inside) was
 
 -- none of them is of the new buffer
-pub count_of_made : (a : BoundsState) (old new : BuffersState) (id : BufferId) (size : ℕ) (ms : List Mapping) → IsCreated old new id size → All (IsPlaced a old) ms → count_of id ms ≡ 0
-count_of_made a old new id size ms made placed =
-    count_of-none id ms (λ k d within. fresh_is_not_of old new id size (get_or ms k d).backing (get_or ms k d).range.count made (placed k d within).inside)
+pub count_of_made : (a : BoundsState) (old new : BuffersState) (id : BufferId) (size : ℕ) (ms : List Mapping) → IsCreated old new id size → All (IsValidMapping a old) ms → count_of id ms ≡ 0
+count_of_made a old new id size ms made valid =
+    count_of-none id ms (λ k d within. fresh_is_not_of old new id size (get_or ms k d).backing (get_or ms k d).range.count made (valid k d within).inside)
 
 -- what holds of each buffer and of the new one
 All-made : (P : Buffer → Type 0) (old new : BuffersState) (id : BufferId) (size : ℕ) → IsCreated old new id size → All P old.live → P (fresh id size) → All P new.live
@@ -67,20 +67,20 @@ All-made P old new id size made all here =
     (All-cons P (fresh id size) (drop index old.live) here (All-drop P index old.live all)))
 
 -- so the counts are right for the new buffer too
-pub uses_made : (a : BoundsState) (old new : BuffersState) (id : BufferId) (size : ℕ) (ms : List Mapping) → IsCreated old new id size → All (IsPlaced a old) ms → UsesAre ms old → UsesAre ms new
-uses_made a old new id size ms made placed used =
-    All-made (λ b. b.uses ≡ count_of b.id ms) old new id size made used (sym (count_of_made a old new id size ms made placed))
+pub uses_made : (a : BoundsState) (old new : BuffersState) (id : BufferId) (size : ℕ) (ms : List Mapping) → IsCreated old new id size → All (IsValidMapping a old) ms → UsesAre ms old → UsesAre ms new
+uses_made a old new id size ms made valid used =
+    All-made (λ b. b.uses ≡ count_of b.id ms) old new id size made used (sym (count_of_made a old new id size ms made valid))
 
-pub kept_made : (a : BoundsState) (old new : BuffersState) (id : BufferId) (size : ℕ) (saved : List Mapping) → IsCreated old new id size → All (IsPlaced a old) saved → KeptAre saved old → KeptAre saved new
-kept_made a old new id size saved made placed kept =
-    All-made (λ b. b.kept ≡ count_of b.id saved) old new id size made kept (sym (count_of_made a old new id size saved made placed))
+pub kept_made : (a : BoundsState) (old new : BuffersState) (id : BufferId) (size : ℕ) (saved : List Mapping) → IsCreated old new id size → All (IsValidMapping a old) saved → KeptAre saved old → KeptAre saved new
+kept_made a old new id size saved made valid kept =
+    All-made (λ b. b.kept ≡ count_of b.id saved) old new id size made kept (sym (count_of_made a old new id size saved made valid))
 
 -- undo values hold what they held
 pub AreKept-made : (s : SpaceState) (new : BuffersState) (id : BufferId) (size : ℕ) (saved : List Mapping) → IsCreated s.buffers new id size → AreKept s saved →
     AreKept (record s { buffers = new }) saved
 AreKept-made s new id size saved made are_kept = record {
-  placed = placed_made s.area s.buffers new id size saved made are_kept.placed;
-  kept = kept_made s.area s.buffers new id size saved made are_kept.placed are_kept.kept;
+  valid = placed_made s.area s.buffers new id size saved made are_kept.valid;
+  kept = kept_made s.area s.buffers new id size saved made are_kept.valid are_kept.kept;
   kept_count = are_kept.kept_count;
 }
 
@@ -131,11 +131,11 @@ KeepsSize-destroyed t id (BufferPages other page) apart =
     ap (option_map (λ (b : Buffer). b.pages)) (others_stay_destroyed t id other (λ same. absurd (false≢true (sym apart ∙ ap (λ (i : BufferId). is_same_id i id) same ∙ is_same_id-itself id))))
 KeepsSize-destroyed t id Zero apart = tt
 
--- mappings that aren't of the buffer stay placed
-pub placed_destroyed : (a : BoundsState) (t : BuffersState) (id : BufferId) (ms : List Mapping) → count_of id ms ≡ 0 → All (IsPlaced a t) ms → All (IsPlaced a (without id t)) ms
-placed_destroyed a t id ms none placed k d within =
+-- mappings that aren't of the buffer stay valid
+pub placed_destroyed : (a : BoundsState) (t : BuffersState) (id : BufferId) (ms : List Mapping) → count_of id ms ≡ 0 → All (IsValidMapping a t) ms → All (IsValidMapping a (without id t)) ms
+placed_destroyed a t id ms none valid k d within =
     let m : Mapping = get_or ms k d in
-    IsPlaced-kept a t (without id t) m (KeepsSize-destroyed t id m.backing (none_from_count_of id ms none k d within)) (placed k d within)
+    IsValidMapping-kept a t (without id t) m (KeepsSize-destroyed t id m.backing (none_from_count_of id ms none k d within)) (valid k d within)
 
 -- the counts of the others stay
 pub uses_destroyed : (t : BuffersState) (id : BufferId) (ms : List Mapping) → UsesAre ms t → UsesAre ms (without id t)
@@ -148,7 +148,7 @@ kept_destroyed t id saved kept = All-filter (λ b. not (has_id id b)) (λ b. b.k
 pub AreKept-destroyed : (s : SpaceState) (id : BufferId) (saved : List Mapping) → destroy_fault s.buffers id ≡ None → AreKept s saved →
     AreKept (record s { buffers = without id s.buffers }) saved
 AreKept-destroyed s id saved none are_kept = record {
-  placed = placed_destroyed s.area s.buffers id saved (kept_of_destroyed s.buffers id saved none are_kept.kept) are_kept.placed;
+  valid = placed_destroyed s.area s.buffers id saved (kept_of_destroyed s.buffers id saved none are_kept.kept) are_kept.valid;
   kept = kept_destroyed s.buffers id saved are_kept.kept;
   kept_count = are_kept.kept_count;
 }

@@ -6,7 +6,7 @@ use Rattle.gv_ranges.specs.List.{run}
 use Rattle.gv_buffers.specs.Buffers.{Buffer, BuffersState}
 use Rattle.gv_space.specs.Counts.{count_of, by_count, counted, more_used, less_used, more_kept, less_kept, moved_out, moved_in}
 use Rattle.gv_space.proofs.CountLemmas.{count_of-append, count_of-splice}
-use Rattle.gv_space.proofs.TableLemmas.{each-each, each-same, each-itself}
+use Rattle.gv_space.proofs.BufferTableLemmas.{each-each, each-same, each-itself}
 use Rattle.gv_space.proofs.ByCountLemmas.{All-by_count}
 
 -- `uses` counts a list

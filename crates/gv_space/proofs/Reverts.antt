@@ -15,21 +15,21 @@ use Rattle.gv_table.proofs.KindLemmas.{enough-same}
 use Rattle.gv_table.specs.declared.page_table.PageTable.{PageTable}
 use Rattle.gv_table.proofs.EditLemmas.{replaced-alike, alike-mutual}
 use Rattle.gv_buffers.specs.Buffers.{BuffersState, most_counted}
-use Rattle.gv_space.specs.Mapped.{MappedState}
+use Rattle.gv_space.specs.ListWithTable.{ListWithTableState}
 use Rattle.gv_space.specs.Counts.{count_of, by_count, counted, more_used, less_used, less_kept}
 use Rattle.gv_space.specs.Live.{IsLiveBacking}
-use Rattle.gv_space.specs.State.{SpaceState, IsSpace, IsPlaced}
+use Rattle.gv_space.specs.State.{SpaceState, IsSpace, IsValidMapping}
 use Rattle.gv_space.specs.Undo.{OpUndoState, IsUndoOf, CanRevert, reverted}
 use Rattle.gv_space.specs.Inside.{space_of}
 use Rattle.gv_space.specs.declared.space.Space.TheInside.{Inside}
 use Rattle.gv_space.specs.declared.undo.OpUndo.TheInside.{Inside as UndoInside}
 use Rattle.gv_space.proofs.ByCountLemmas.{live_from_placed, more_used_of_counts, less_used_of_counts, less_kept_of_counts}
 use Rattle.gv_space.proofs.LiveNames.{LivedIn, lived-by_count}
-use Rattle.gv_space.proofs.Lengths.{length-splice}
+use Rattle.gv_space.proofs.RestoredLengths.{length-splice}
 use Rattle.gv_space.proofs.Recounted.{moved_back}
-use Rattle.gv_space.proofs.Rooms.{room_to_count, run_is_counted, saved_are_kept, length-taken-le-most_kept}
+use Rattle.gv_space.proofs.RoomInCounts.{room_to_count, run_is_counted, saved_are_kept, length-taken-le-most_kept}
 use Rattle.gv_space.proofs.KeptLemmas.{All-front, All-splice, All-taken}
-use Rattle.gv_space.proofs.Spaces.{IsSpace-reverted}
+use Rattle.gv_space.proofs.SpaceInvariant.{IsSpace-reverted}
 
 -- to undo a change gives the list before it
 pub undone_is : (before now : List Mapping) (u : OpUndoState) → IsUndoOf before now u → undone now u.change ≡ before
@@ -86,14 +86,14 @@ module _ (s : SpaceState) (u : OpUndoState) (space : IsSpace s) (fits : CanRever
   pub tables_are_enough : (table : PageTable) → IsTree s.mappings table → AreEnough u.tables (gained_by old table)
   tables_are_enough table tree = enough-same (fits.undo.tables table tree)
 
-  pub taken_placed : All (IsPlaced s.area s.buffers) u.change.taken
-  taken_placed = All-front (IsPlaced s.area s.buffers) u.change.taken fits.kept.others fits.kept.are_kept.placed
+  pub taken_placed : All (IsValidMapping s.area s.buffers) u.change.taken
+  taken_placed = All-front (IsValidMapping s.area s.buffers) u.change.taken fits.kept.others fits.kept.are_kept.valid
 
   pub taken_live : All (λ m. IsLiveBacking s.buffers m.backing) u.change.taken
   taken_live = live_from_placed s.area s.buffers u.change.taken taken_placed
 
   pub gone_live : All (λ m. IsLiveBacking s.buffers m.backing) gone
-  gone_live = live_from_placed s.area s.buffers gone (All-taken (IsPlaced s.area s.buffers) s.mappings gone u.change.index u.change.put_in refl space.placed)
+  gone_live = live_from_placed s.area s.buffers gone (All-taken (IsValidMapping s.area s.buffers) s.mappings gone u.change.index u.change.put_in refl space.valid)
 
   pub taken_kept : All (λ b. count_of b.id u.change.taken ≤ b.kept) s.buffers.live
   taken_kept = saved_are_kept s u.change.taken fits.kept.others fits.kept.are_kept
@@ -104,7 +104,7 @@ module _ (s : SpaceState) (u : OpUndoState) (space : IsSpace s) (fits : CanRever
   pub gone_counted : All (λ b. count_of b.id gone ≤ b.uses) s.buffers.live
   gone_counted = run_is_counted s gone u.change.index u.change.put_in space refl
 
-  pub state_before : (list : MappedState) (buffers : BuffersState) (count : ℕ) → list.mappings ≡ old → list.room ≡ s.room →
+  pub state_before : (list : ListWithTableState) (buffers : BuffersState) (count : ℕ) → list.mappings ≡ old → list.room ≡ s.room →
       buffers ≡ by_count less_used gone (by_count more_used u.change.taken (by_count less_kept u.change.taken s.buffers)) → count ≡ length u.change.taken →
       record s { mappings = list.mappings; room = list.room; buffers = buffers; kept_count = s.kept_count - count } ≡ reverted s u
   state_before list buffers count list_is room_is buffers_is count_is =
@@ -112,8 +112,8 @@ module _ (s : SpaceState) (u : OpUndoState) (space : IsSpace s) (fits : CanRever
       buffers_is ∙ moved_back s.mappings gone u.change.taken u.change.index u.change.put_in s.buffers refl space.used in
       rw (list_is, room_is, tables, count_is) refl
 
-  pub old_placed : All (IsPlaced s.area s.buffers) old
-  old_placed = All-splice (IsPlaced s.area s.buffers) s.mappings u.change.taken u.change.index (u.change.index + u.change.put_in) space.placed taken_placed
+  pub old_placed : All (IsValidMapping s.area s.buffers) old
+  old_placed = All-splice (IsValidMapping s.area s.buffers) s.mappings u.change.taken u.change.index (u.change.index + u.change.put_in) space.valid taken_placed
 
   pub space_before : IsSpace (reverted s u)
   space_before =
@@ -128,7 +128,7 @@ fits_inside s u space undo space_is undo_is fits =
     subst (λ (v : OpUndoState). CanRevert (space_of s) v) (sym undo_is) (subst (λ (t : SpaceState). CanRevert t undo) (sym space_is) fits)
 
 -- the list is spliced and the counts are moved back: that is the space before the change
-pub state_made : (s : SpaceState) (u : OpUndoState) (space : IsSpace s) (fits : CanRevert s u) (gone_now taken put_back : List Mapping) (list : MappedState) (buffers : BuffersState) (count : ℕ) →
+pub state_made : (s : SpaceState) (u : OpUndoState) (space : IsSpace s) (fits : CanRevert s u) (gone_now taken put_back : List Mapping) (list : ListWithTableState) (buffers : BuffersState) (count : ℕ) →
     gone_now ≡ run s.mappings u.change.index u.change.put_in → taken ≡ u.change.taken → put_back ≡ u.change.taken →
     list.mappings ≡ splice s.mappings u.change.index (u.change.index + u.change.put_in) put_back → list.room ≡ s.room →
     buffers ≡ by_count less_used gone_now (by_count more_used taken (by_count less_kept taken s.buffers)) →

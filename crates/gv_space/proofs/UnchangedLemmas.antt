@@ -10,7 +10,7 @@ use Rattle.gv_space.specs.Change.{IsChanged}
 pub AreKept-unchanged : (old new : SpaceState) (ms : List Mapping) → IsUnchanged old new → AreKept old ms → AreKept new ms
 AreKept-unchanged old new ms unchanged are_kept =
     subst (λ (s : SpaceState). AreKept s ms) (sym unchanged.state)
-    (record { placed = are_kept.placed; kept = are_kept.kept; kept_count = are_kept.kept_count })
+    (record { valid = are_kept.valid; kept = are_kept.kept; kept_count = are_kept.kept_count })
 
 -- those of an undo value
 pub AreAmongKept-unchanged : (old new : SpaceState) (ms : List Mapping) → IsUnchanged old new → AreAmongKept old ms → AreAmongKept new ms
@@ -27,7 +27,7 @@ CanRevert-unchanged old new u unchanged fits =
       room = omega (arith, fits.room, unchanged.room);
       kept = record {
         others = fits.kept.others;
-        are_kept = record { placed = fits.kept.are_kept.placed; kept = fits.kept.are_kept.kept; kept_count = fits.kept.are_kept.kept_count };
+        are_kept = record { valid = fits.kept.are_kept.valid; kept = fits.kept.are_kept.kept; kept_count = fits.kept.are_kept.kept_count };
       };
     })
 
@@ -40,7 +40,7 @@ changed_with_room old new room ms u more changed = record {
   undo = changed.undo;
   can_revert = changed.can_revert;
   kept = λ others are_kept.
-      changed.kept others (record { placed = are_kept.placed; kept = are_kept.kept; kept_count = are_kept.kept_count });
+      changed.kept others (record { valid = are_kept.valid; kept = are_kept.kept; kept_count = are_kept.kept_count });
   back = changed.back;
 }
 

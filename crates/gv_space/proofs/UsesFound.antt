@@ -7,7 +7,7 @@ use Rattle.gv_buffers.specs.Buffers.{Buffer, BuffersState, uses, IsLive}
 use Rattle.gv_buffers.proofs.FoundLemmas.{counted_lives}
 use Rattle.gv_space.specs.Counts.{count_of}
 use Rattle.gv_space.proofs.CountLemmas.{same_from_is_same_id}
-use Rattle.gv_space.proofs.TableLemmas.{found_live}
+use Rattle.gv_space.proofs.BufferTableLemmas.{found_live}
 use Rattle.gv_space.proofs.Recounted.{UsesAre}
 
 -- a buffer that tells its uses is alive

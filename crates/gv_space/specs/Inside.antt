@@ -1,7 +1,7 @@
 -- What an address space keeps of its parts. No public clause cites this module.
 use Rattle.std.specs.Prelude.{length}
-use Rattle.gv_space.specs.Mapped.{AreLiveNamed}
-use Rattle.gv_space.specs.Placed.{ArePlaces, HaveRows}
+use Rattle.gv_space.specs.ListWithTable.{AreLiveNamed}
+use Rattle.gv_space.specs.ListFirstPages.{AreFirstPages, HaveRows}
 use Rattle.gv_space.specs.State.{SpaceState, IsSpace}
 use Rattle.gv_space.specs.declared.space.Space.TheInside.{Inside}
 
@@ -16,9 +16,9 @@ space_of s =
       kept_count = s.kept_count;
     }
 
--- the space is sound, its page table can name each live buffer, and the places are those of the list, with a row for each live buffer
+-- the space is sound, its page table can name each live buffer, and the first pages are those of the list, with a row for each live buffer
 pub record IsSoundSpace (s : Inside) : Type 0 where
   pub space : IsSpace (space_of s)
   pub named : AreLiveNamed s.buffers s.mapped.names
-  pub places : ArePlaces s.mapped.mappings s.places
-  pub rows : HaveRows s.buffers (length s.places)
+  pub first_pages : AreFirstPages s.mapped.mappings s.first_pages
+  pub rows : HaveRows s.buffers (length s.first_pages)

@@ -1,11 +1,11 @@
 pub mod State
 pub mod Counts
-pub mod Placed
+pub mod ListFirstPages
 pub mod Live
 pub mod Undo
 pub mod Refusal
 pub mod Change
-pub mod Mapped
+pub mod ListWithTable
 pub mod Inside
 pub mod Ready
 pub mod Laws

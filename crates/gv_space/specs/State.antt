@@ -33,14 +33,14 @@ LieInside t (Buffer id page) count = IsSomeAnd (pages t id) (λ size. page + cou
 LieInside t Zero count = Unit {0}
 
 -- a mapping lies inside the bounds, off the reserved region, and inside its live buffer
-pub record IsPlaced (a : BoundsState) (t : BuffersState) (m : Mapping) : Type 0 where
+pub record IsValidMapping (a : BoundsState) (t : BuffersState) (m : Mapping) : Type 0 where
   pub in_space : lies_in m.range a.space ≡ true
   pub off_region : meets_region a.reserved m.range ≡ false
   pub inside : LieInside t m.backing m.range.count
 
--- all mappings kept in undo values: each is placed, `kept` counts them by buffer, and `kept_count` all of them
+-- all mappings kept in undo values: each is valid, `kept` counts them by buffer, and `kept_count` all of them
 pub record AreKept (s : SpaceState) (ms : List Mapping) : Type 0 where
-  pub placed : All (IsPlaced s.area s.buffers) ms
+  pub valid : All (IsValidMapping s.area s.buffers) ms
   pub kept : All (λ b. b.kept ≡ count_of b.id ms) s.buffers.live
   pub kept_count : s.kept_count ≡ length ms
 
@@ -49,7 +49,7 @@ pub record IsSpace (s : SpaceState) : Type 0 where
   pub limits : IsWithin s.limits
   pub laid_out : IsLaidOut s.mappings
   pub few : length s.mappings ≤ s.limits.mappings
-  pub placed : All (IsPlaced s.area s.buffers) s.mappings
+  pub valid : All (IsValidMapping s.area s.buffers) s.mappings
   pub buffers : IsTable s.buffers
   pub used : All (λ b. b.uses ≡ count_of b.id s.mappings) s.buffers.live
   pub all_kept : List Mapping

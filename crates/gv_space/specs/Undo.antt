@@ -5,7 +5,7 @@ use Rattle.gv_types.specs.declared.mapping.Mapping.{Mapping}
 use Rattle.gv_ranges.specs.List.{at, IsLaidOut, IsOverlappingRun, run}
 use Rattle.gv_ranges.specs.Edit.{Undo, LieIn, replaced, undone}
 use Rattle.gv_table.specs.declared.page_table.PageTable.{PageTable}
-use Rattle.gv_table.specs.declared.tables.Tables.{Tables}
+use Rattle.gv_table.specs.declared.kind_counts.KindCounts.{KindCounts}
 use Rattle.gv_table.specs.Table.{IsTree, gained_by}
 use Rattle.gv_space.specs.Counts.{by_count, counted, less_kept}
 use Rattle.gv_space.specs.State.{SpaceState, AreKept}
@@ -15,10 +15,10 @@ use Rattle.gv_space.specs.State.{SpaceState, AreKept}
 pub record OpUndoState : Type 0 where
   pub change : Undo
   pub range : PageRangeState
-  pub tables : Tables
+  pub tables : KindCounts
 
 -- an undo value with these
-abbrev pub undo_with : ℕ → ℕ → List Mapping → PageRangeState → Tables → OpUndoState
+abbrev pub undo_with : ℕ → ℕ → List Mapping → PageRangeState → KindCounts → OpUndoState
 undo_with index put_in taken range tables = record { change = record { index = index; put_in = put_in; taken = taken }; range = range; tables = tables }
 
 -- Some pieces were put in the range of the old list, which made it the new one. The undo value has just the run of the

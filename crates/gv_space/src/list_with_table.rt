@@ -3,11 +3,11 @@ ghost use Rattle.std.specs.Prelude.{◌≡◌, ◌≢◌, ◌+◌, ◌*◌, ◌<
 ghost use Rattle.std.specs.Prelude.{IsOkUnless, OnOk, OnErr};
 ghost use Rattle.gv_types.specs.declared.mapping.BufferId.{BufferId};
 ghost use Rattle.gv_chunks.specs.declared.TheConstants.{CHUNK};
-ghost use Rattle.gv_table.specs.Names.{most_names, AreNamed};
-ghost use Rattle.gv_space.specs.Mapped.{list_of, AreApart};
+ghost use Rattle.gv_table.specs.BufferNames.{most_names, AreNamed};
+ghost use Rattle.gv_space.specs.ListWithTable.{list_of, AreApart};
 ghost use Rattle.gv_types.specs.declared.mapping.Mapping.{Mapping};
 ghost use Rattle.gv_ranges.specs.List.{at, IsUnchangedList};
-ghost use Rattle.gv_table.specs.Table.{IsTree, IsHeldAt, tables_of};
+ghost use Rattle.gv_table.specs.Table.{IsTree, IsEntryAt, tables_of};
 ghost use Rattle.gv_table.specs.declared.page_table.PageTable.{PageTable};
 
 mod edits;
@@ -27,9 +27,9 @@ pub struct ListWithTable {
 
 impl Model for ListWithTable {
     ghost use Rattle.gv_table.specs.Table.{IsTree};
-    ghost use Rattle.gv_space.specs.Mapped.{MappedState};
+    ghost use Rattle.gv_space.specs.ListWithTable.{ListWithTableState};
 
-    ghost Value = { MappedState };
+    ghost Value = { ListWithTableState };
 
     ghost view = { λ p. record { mappings = p.list.mappings; room = p.list.room; names = p.table.names } };
 
@@ -65,7 +65,7 @@ impl ListWithTable {
     /// What the page holds, by the page table.
     pub fn walk(&self, page: u64) -> Option<Entry>
         ensures value { result ≡ at self.now.mappings page }
-        ensures tree { (table : PageTable) × IsTree self.now.mappings table × IsHeldAt table page result }
+        ensures tree { (table : PageTable) × IsTree self.now.mappings table × IsEntryAt table page result }
     {
         // Tells that the list is laid out.
         let _len = self.list.len();

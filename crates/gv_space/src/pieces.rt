@@ -1,4 +1,4 @@
-//! What comes to stand where a range meets a list.
+//! What a change takes out of the list, and what it puts in: mappings and rests.
 ghost use Rattle.std.specs.Prelude.{◌≡◌, ◌+◌, ◌-◌, ◌<◌, ◌≤◌, ◌++◌, [], length, take, drop, IfOk, OnOk};
 ghost use Rattle.std.specs.List.{All};
 ghost use Rattle.std.specs.Option.{option_to_list};
@@ -7,7 +7,7 @@ ghost use Rattle.gv_ranges.specs.List.{run, IsLaidOut};
 ghost use Rattle.gv_ranges.specs.Edit.{clipped, restored};
 ghost use Rattle.gv_space.specs.Refusal.{count_met};
 
-use gv_ranges::{Cut, RangeList, next_rest, prev_rest};
+use gv_ranges::{Overlap, RangeList, next_rest, prev_rest};
 use gv_types::{OutOfMemory, Packed, PageRange};
 use smallvec::SmallVec;
 use std::array::from_ref;
@@ -15,8 +15,8 @@ use std::array::from_ref;
 /// How many mappings an undo value keeps in itself: most operations meet one to three.
 const INLINE: usize = 3;
 
-/// A few mappings, in the value itself where they are at most three.
-pub type Pieces = SmallVec<Packed, INLINE>;
+/// What a change takes out, in the value itself where they are at most three.
+pub type TakenMappings = SmallVec<Packed, INLINE>;
 
 /// How many mappings come in without memory: most operations put in one, with a rest on each side.
 const INCOMING: usize = 3;
@@ -35,14 +35,18 @@ pub fn as_pieces(mapping: &Option<Packed>) -> &[Packed]
     }
 }
 
-/// Copies the mappings of a cut to where they stay, which asks for just their room. Mostly they stand in one block of memory.
-pub fn copy_run(pieces: &mut Pieces, list: &RangeList, cut: Cut<'_>) -> Result<(), OutOfMemory>
+/// Copies the mappings of an overlap to where they stay, which asks for just their room. Mostly they stand in one block of memory.
+pub fn copy_run(
+    pieces: &mut TakenMappings,
+    list: &RangeList,
+    overlap: Overlap<'_>,
+) -> Result<(), OutOfMemory>
     requires none { pieces.old.items ≡ [] }
-    requires within { cut.spot.index + cut.count ≤ length list.now.mappings }
-    requires block { cut.block.now ≡ take (length cut.block.now) (drop cut.spot.index list.now.mappings) }
-    ensures { OnOk result (pieces.new.items ≡ run list.now.mappings cut.entry.spot.index cut.entry.count) }
+    requires within { overlap.spot.index + overlap.count ≤ length list.now.mappings }
+    requires block { overlap.block.now ≡ take (length overlap.block.now) (drop overlap.spot.index list.now.mappings) }
+    ensures { OnOk result (pieces.new.items ≡ run list.now.mappings overlap.entry.spot.index overlap.entry.count) }
 {
-    let Cut { spot, count, block } = cut;
+    let Overlap { spot, count, block } = overlap;
     pieces.reserve_exact(count)?;
     if count <= block.len() {
         return Ok(pieces.extend_from_slice(&block[..count])?);

@@ -10,7 +10,7 @@ ghost use Rattle.gv_types.specs.declared.mapping.Mapping.{Mapping};
 
 use crate::list_with_table::ListWithTable;
 use crate::ranges;
-use gv_buffers::{Buffers, PlaceTable, Usage};
+use gv_buffers::{Buffers, FirstPageTable, Usage};
 use gv_ranges::RangeList;
 use gv_split::Step;
 use gv_table::PageTable;
@@ -32,7 +32,7 @@ pub struct Space {
     limits: Limits,
     mapped: ListWithTable,
     buffers: Buffers,
-    places: PlaceTable,
+    first_pages: FirstPageTable,
     kept_count: u64,
 }
 
@@ -55,10 +55,10 @@ impl Space {
     ghost use Rattle.gv_split.specs.CarriedOut.{carried_out, ArePresent, list_after};
     ghost use Rattle.gv_buffers.specs.Buffers.{uses, kept, pages, create_fault, destroy_fault, join_fault};
     ghost use Rattle.gv_buffers.specs.Buffers.{without, changed, joined_by, left_everywhere, IsCreated};
-    ghost use Rattle.gv_table.specs.Table.{tables_of, IsTree, IsHeldAt};
+    ghost use Rattle.gv_table.specs.Table.{tables_of, IsTree, IsEntryAt};
     ghost use Rattle.gv_table.specs.declared.page_table.PageTable.{PageTable};
     ghost use Rattle.gv_space.specs.Counts.{count_of, ranges_of};
-    ghost use Rattle.gv_space.specs.State.{new_space, AreKept, IsPlaced, IsSpace, IsUnchanged, TableMatchesList};
+    ghost use Rattle.gv_space.specs.State.{new_space, AreKept, IsValidMapping, IsSpace, IsUnchanged, TableMatchesList};
     ghost use Rattle.gv_space.specs.Refusal.{operation_fault, dead_fault, limit_fault, apply_fault};
     ghost use Rattle.gv_space.specs.Undo.{AreAmongKept, TookWhatWas, CanRevert, IsUndoOf, released, reverted};
     ghost use Rattle.gv_space.specs.Change.{IsChanged, GrowsJustFor};
@@ -76,7 +76,7 @@ impl Space {
             limits,
             mapped: ListWithTable::new(alloc),
             buffers,
-            places: PlaceTable::new(alloc),
+            first_pages: FirstPageTable::new(alloc),
             kept_count: 0,
         })
     }
@@ -121,7 +121,7 @@ impl Space {
     /// space.
     pub fn walk(&self, page: u64) -> Option<Entry>
         ensures value { result ≡ at self.now.mappings page }
-        ensures tree { (table : PageTable) × IsTree self.now.mappings table × IsHeldAt table page result }
+        ensures tree { (table : PageTable) × IsTree self.now.mappings table × IsEntryAt table page result }
     {
         self.mapped.walk(page)
     }
@@ -145,8 +145,8 @@ impl Space {
             carried_out list.items self.now.mappings ≡ list_after self.now.mappings (in_pages op.now)) }
         ensures present { IfOk result (λ list. ArePresent list.items self.now.mappings) }
         ensures some { result ≡ Err Fault.OutOfMemory → 0 < length (steps self.now.mappings (in_pages op.now)) }
-        ensures placed { IfOk result (λ _.
-            All (IsPlaced self.now.area self.now.buffers) (own_mapping (in_pages op.now))) }
+        ensures valid { IfOk result (λ _.
+            All (IsValidMapping self.now.area self.now.buffers) (own_mapping (in_pages op.now))) }
     {
         // The borrow checker proves the call only where the function names the types inside the steps.
         let _backing = Backing::Zero;
@@ -166,6 +166,6 @@ impl Space {
     {
         self.mapped.shrink();
         self.buffers.shrink();
-        self.places.shrink();
+        self.first_pages.shrink();
     }
 }

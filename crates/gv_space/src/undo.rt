@@ -1,7 +1,7 @@
 //! Undo values.
 ghost use Rattle.std.specs.Prelude.{◌≡◌};
 
-use crate::pieces::Pieces;
+use crate::pieces::TakenMappings;
 use gv_table::Spares;
 use gv_types::{Entry, PageRange};
 use std::marker::Model;
@@ -14,7 +14,7 @@ pub struct OpUndo {
     pub(crate) index: usize,
     pub(crate) put_in: usize,
     pub(crate) range: PageRange,
-    pub(crate) taken: Pieces,
+    pub(crate) taken: TakenMappings,
     pub(crate) tables: Spares,
 }
 

@@ -11,9 +11,9 @@ use Rattle.gv_types.specs.declared.mapping.Mapping.{Mapping}
 use Rattle.gv_types.specs.declared.operation.PageOp.{PageOp}
 use Rattle.gv_ranges.specs.List.{IsLaidOut}
 use Rattle.gv_ranges.specs.Edit.{edited}
-use Rattle.gv_ranges.proofs.KeptLemmas.{HoldsOfPieces, clip_is_piece, All-edited}
+use Rattle.gv_ranges.proofs.AllReplacedLemmas.{HoldsOfPieces, clip_is_piece, All-edited}
 use Rattle.gv_ranges.proofs.ReplacedLemmas.{all_mappings}
-use Rattle.gv_table.specs.Names.{pages_told, IsNamed, AreNamed}
+use Rattle.gv_table.specs.BufferNames.{encodable_pages, IsNamed, AreNamed}
 
 advanced_named : (names : List BufferId) (b : Backing) (from count less : ℕ) → from + less ≤ count → IsNamed names b count → IsNamed names (advanced b from) less
 advanced_named names (Buffer id page) from count less fits is = (is.0, omega (arith, is.1))

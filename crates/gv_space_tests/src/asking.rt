@@ -1,4 +1,4 @@
-//! What is asked of a space, and what it answers.
+//! The questions of rows (`look`, `plan`, `count` ..): writes what a space answers.
 use crate::operations::{ZERO, id_of, op_of};
 use crate::text::{add, tell, tell_held, tell_list, tell_ranges, tell_steps, tell_tables};
 use crate::words::{Clause, Verb};

@@ -1,4 +1,4 @@
-//! Changes of a space that are looked at, and then undone or kept. No undo value leaves this file.
+//! Edits of a space, looked at one by one: `keep_first` keeps the first ones and undoes the others. No undo value leaves this file.
 ghost use Rattle.std.specs.Prelude.{List};
 ghost use Rattle.gv_types.specs.declared.mapping.Mapping.{Mapping};
 ghost use Rattle.gv_space.specs.State.{AreKept, IsUnchanged};
@@ -27,16 +27,16 @@ fn there_and_back(
     };
     let op = space.check(edit.op())?;
     let undo = space.apply_pages(alloc, &op)?;
-    watch.enter(alloc, space, edit, undo.range());
+    watch.after_edit(alloc, space, edit, undo.range());
     let outcome = there_and_back(alloc, space, watch, rest);
     space.revert(undo);
-    watch.leave(alloc, space, false);
+    watch.undo_spent(alloc, space, false);
     outcome
 }
 
 /// Applies edits in turn, of which the first ones, so many, stay. The others are undone. It looks after each edit, and each time that an
 /// undo value is spent, the newest first.
-pub fn there(
+pub fn keep_first(
     alloc: Global,
     space: &mut Space,
     watch: &mut Watch,
@@ -52,10 +52,10 @@ pub fn there(
         return Ok(());
     };
     let undo = space.apply(alloc, edit.op())?;
-    watch.enter(alloc, space, edit, undo.range());
-    let outcome = there(alloc, space, watch, rest, staying - 1);
+    watch.after_edit(alloc, space, edit, undo.range());
+    let outcome = keep_first(alloc, space, watch, rest, staying - 1);
     space.release(undo);
-    watch.leave(alloc, space, true);
+    watch.undo_spent(alloc, space, true);
     outcome
 }
 
@@ -75,14 +75,14 @@ fn restore(
         return Err(Fault::OutOfSpace);
     };
     let undo = space.restore(alloc, range, saved)?;
-    watch.enter_restored(alloc, space, range);
+    watch.after_restore(alloc, space, range);
     let stays = matches!(restored.verb, Verb::Stays);
     if stays {
         space.release(undo);
     } else {
         space.revert(undo);
     }
-    watch.leave(alloc, space, stays);
+    watch.undo_spent(alloc, space, stays);
     Ok(())
 }
 
@@ -117,12 +117,12 @@ pub fn bring_back(
         return Ok(());
     };
     let saved = space.apply(alloc, edit.op())?;
-    watch.enter(alloc, space, edit, saved.range());
-    let outcome = match there(alloc, space, watch, rest, u64::MAX) {
+    watch.after_edit(alloc, space, edit, saved.range());
+    let outcome = match keep_first(alloc, space, watch, rest, u64::MAX) {
         Ok(()) => restore_all(alloc, space, watch, &saved, clauses),
         Err(fault) => Err(fault),
     };
     space.release(saved);
-    watch.leave(alloc, space, true);
+    watch.undo_spent(alloc, space, true);
     outcome
 }

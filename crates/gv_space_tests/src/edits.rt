@@ -1,7 +1,7 @@
 //! Edits by chance of an address space and of a plain list, in batches, each of which is undone and applied again. After each edit the
 //! test compares what both hold around it, after each batch all of it.
 use crate::chance::{Area, Spread, operation};
-use crate::changes::there;
+use crate::changes::keep_first;
 use crate::judge::is_held;
 use crate::playing::{ONE, THREE, TWO, expect};
 use crate::text::tell;
@@ -108,15 +108,15 @@ pub fn follow(
 
 /// A batch applied and undone, and applied again for good. Its edits count where the space was then as before, and is as the plain list.
 fn batch(alloc: Global, space: &mut Space, watch: &mut Watch, edits: &[Edit]) -> Result<(), Fault> {
-    let (tables, right) = (space.tables(), watch.right);
+    let (tables, right) = (space.tables(), watch.right_count);
     watch.asked.verb = Verb::Beside;
-    there(alloc, space, watch, edits, 0)?;
-    let is_undone = space.tables() == tables && agree(space, &watch.behind);
+    keep_first(alloc, space, watch, edits, 0)?;
+    let is_undone = space.tables() == tables && agree(space, &watch.whole_batches);
     watch.asked.verb = Verb::Nothing;
-    there(alloc, space, watch, edits, EDITS)?;
-    watch.behind.apply_all(edits)?;
-    if !is_undone || !agree(space, &watch.behind) {
-        watch.right = right;
+    keep_first(alloc, space, watch, edits, EDITS)?;
+    watch.whole_batches.apply_all(edits)?;
+    if !is_undone || !agree(space, &watch.whole_batches) {
+        watch.right_count = right;
     }
     Ok(())
 }
@@ -134,7 +134,7 @@ pub fn play(
         let edits = edits_of(alloc, &mut random, &watch.ids, size)?;
         batch(alloc, space, watch, &edits)?;
     }
-    tell(&mut watch.text, &[("right ", Some(watch.right))]);
+    tell(&mut watch.text, &[("right ", Some(watch.right_count))]);
     Ok(())
 }
 

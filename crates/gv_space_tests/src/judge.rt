@@ -1,5 +1,5 @@
 //! What a space has to be by the definitions alone.
-use gv_model::{Edit, History, Kind, Past, at, changed, count_of, only, push, range_of};
+use gv_model::{Edit, History, HistoryEntry, Kind, at, changed, count_of, only, push, range_of};
 use gv_ranges::RangeList;
 use gv_space::Space;
 use gv_types::{
@@ -76,16 +76,16 @@ impl Judge {
             seen: Vec::new(alloc),
             done: only(alloc, PageOp::Unmap { range })?,
         };
-        push(&mut self.history.entries, Past { before, kind })?;
+        push(&mut self.history.entries, HistoryEntry { before, kind })?;
         Ok(is_right)
     }
 
     /// The newest change stays, or is undone.
-    pub fn leave(&mut self, stays: bool) {
+    pub fn end_newest(&mut self, stays: bool) {
         let Some(newest) = self.history.entries.pop() else {
             return;
         };
-        let Past { before, kind: _ } = newest;
+        let HistoryEntry { before, kind: _ } = newest;
         if !stays {
             self.list = before;
         }

@@ -3,11 +3,11 @@
 mod buffers;
 mod calls;
 mod chunks;
+mod first_pages;
 mod fixtures;
-mod full_tables;
+mod full_buffer_tables;
 mod many_buffers;
 mod packed;
-mod places;
 mod ranges;
 mod split;
 mod table;

@@ -1,6 +1,6 @@
 //! Rows played on a space: what each answers, after what was seen while it was played.
 use crate::asking::ask;
-use crate::changes::{bring_back, there};
+use crate::changes::{bring_back, keep_first};
 use crate::operations::{edits_of, id_of, ops_of};
 use crate::text::{add, tell, tell_refusal};
 use crate::watch::{Row, Watch};
@@ -63,9 +63,9 @@ fn play_all_of(
 ) -> Result<(), Fault> {
     let [head, about, ..] = clauses;
     match head.verb {
-        Verb::Stay => there(alloc, space, watch, edits, head.numbers[0])?,
+        Verb::Stay => keep_first(alloc, space, watch, edits, head.numbers[0])?,
         Verb::Map | Verb::MapBytes | Verb::Zero | Verb::ZeroRo | Verb::Unmap => {
-            there(alloc, space, watch, edits, 1)?;
+            keep_first(alloc, space, watch, edits, 1)?;
         }
         Verb::Restore => bring_back(alloc, space, watch, edits, clauses)?,
         _ => return ask(alloc, space, &watch.ids, head, about, &mut watch.text),

@@ -1,6 +1,6 @@
-//! Rounds of operations by chance on a few places, each look at which is compared with the definitions.
+//! Rounds of operations by chance on 64 runs of pages ("places"), each look at which is compared with the definitions.
 use crate::chance::{Area, Spread, operation};
-use crate::changes::{bring_back, there};
+use crate::changes::{bring_back, keep_first};
 use crate::playing::{ONE, THREE, TWO, expect_in};
 use crate::text::tell;
 use crate::watch::{Row, Watch};
@@ -45,8 +45,8 @@ fn round(
         numbers: [area.first.number(random), area.count.number(random), 0, 0],
     };
     match way {
-        0 => there(alloc, space, watch, &edits, 0),
-        1 => there(alloc, space, watch, &edits, 2),
+        0 => keep_first(alloc, space, watch, &edits, 0),
+        1 => keep_first(alloc, space, watch, &edits, 2),
         _ => bring_back(alloc, space, watch, &edits, &[range]),
     }
 }
@@ -70,7 +70,7 @@ pub fn play(
     for number in 0..ROUNDS {
         round(alloc, space, watch, &mut random, &area, number % 4)?;
     }
-    tell(&mut watch.text, &[("right ", Some(watch.right))]);
+    tell(&mut watch.text, &[("right ", Some(watch.right_count))]);
     Ok(())
 }
 

@@ -1,4 +1,4 @@
-//! Changes, and the way back.
+//! Rows of operations that are applied and then undone.
 use crate::playing::expect;
 use crate::watch::Row;
 

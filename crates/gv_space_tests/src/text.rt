@@ -30,9 +30,9 @@ pub fn tell_refusal(text: &mut String, said: Result<(), Fault>) {
 fn tell_entry(text: &mut String, entry: &Entry, ids: &[BufferId]) {
     match entry.backing {
         Backing::Buffer { id, page } => {
-            let place = ids.iter().position(|other| *other == id);
-            let place = place.map(|place| place as u64);
-            tell(text, &[(" b", place), (" ", Some(page))]);
+            let position = ids.iter().position(|other| *other == id);
+            let position = position.map(|position| position as u64);
+            tell(text, &[(" b", position), (" ", Some(page))]);
         }
         Backing::Zero => add(text, " zero"),
     }

@@ -28,10 +28,10 @@ pub struct Watch {
     pub changed: (u64, u64),
     pub judge: Judge,
     /// A list that has each edit, also those that the space takes back; and one that has those of whole batches.
-    pub ahead: PlainList,
-    pub behind: PlainList,
+    pub all_edits: PlainList,
+    pub whole_batches: PlainList,
     /// How many comparisons with the model were right.
-    pub right: u64,
+    pub right_count: u64,
 }
 
 impl Watch {
@@ -44,9 +44,9 @@ impl Watch {
             wrong: String::new(alloc),
             changed: (0, 0),
             judge: Judge::new(alloc),
-            ahead: PlainList::new(alloc),
-            behind: PlainList::new(alloc),
-            right: 0,
+            all_edits: PlainList::new(alloc),
+            whole_batches: PlainList::new(alloc),
+            right_count: 0,
         }
     }
 
@@ -75,18 +75,18 @@ impl Watch {
 
     pub fn count(&mut self, is_right: bool) {
         if is_right {
-            self.right = self.right.saturating_add(1);
+            self.right_count = self.right_count.saturating_add(1);
         }
     }
 
     /// Compares an edit, which was applied to these pages of a space, and looks.
-    pub fn enter(&mut self, alloc: Global, space: &mut Space, edit: &Edit, range: PageRange)
+    pub fn after_edit(&mut self, alloc: Global, space: &mut Space, edit: &Edit, range: PageRange)
         ensures { space.new ≡ space.old }
     {
         self.changed = (range.first(), range.end());
         let said = match self.asked.verb {
             Verb::Judge => self.judge.edit(alloc, edit),
-            Verb::Beside => follow(space, &mut self.ahead, edit, self.right),
+            Verb::Beside => follow(space, &mut self.all_edits, edit, self.right_count),
             _ => Ok(false),
         };
         self.count(said.unwrap_or(false));
@@ -94,7 +94,7 @@ impl Watch {
     }
 
     /// The same, where a range was restored.
-    pub fn enter_restored(&mut self, alloc: Global, space: &mut Space, range: PageRange)
+    pub fn after_restore(&mut self, alloc: Global, space: &mut Space, range: PageRange)
         ensures { space.new ≡ space.old }
     {
         self.changed = (range.first(), range.end());
@@ -106,10 +106,10 @@ impl Watch {
     }
 
     /// Looks once the undo value of the newest change is spent.
-    pub fn leave(&mut self, alloc: Global, space: &mut Space, stays: bool)
+    pub fn undo_spent(&mut self, alloc: Global, space: &mut Space, stays: bool)
         ensures { space.new ≡ space.old }
     {
-        self.judge.leave(stays);
+        self.judge.end_newest(stays);
         self.see(alloc, space);
     }
 

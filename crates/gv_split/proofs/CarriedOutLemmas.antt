@@ -18,7 +18,7 @@ use Rattle.gv_types.specs.declared.operation.PageOp.TheVariants.{Map as MapOp, U
 use Rattle.gv_ranges.specs.List.{IsLaidOut, IsLaidOutFrom}
 use Rattle.gv_ranges.specs.Edit.{clipped, replaced, edited}
 use Rattle.gv_ranges.proofs.ClipLemmas.{clip_whole, clip_none}
-use Rattle.gv_ranges.proofs.KeptLemmas.{clip_is_piece, All-clipped}
+use Rattle.gv_ranges.proofs.AllReplacedLemmas.{clip_is_piece, All-clipped}
 use Rattle.gv_ranges.proofs.LookupLemmas.{first_above}
 use Rattle.gv_ranges.proofs.OrderLemmas.{ends-clipped}
 use Rattle.gv_ranges.proofs.OverlapLemmas.{filter_all, filter_none}
@@ -26,7 +26,7 @@ use Rattle.gv_ranges.proofs.ReplacedLemmas.{clipped_none, lies_in_bounds}
 use Rattle.gv_split.specs.declared.step.Step.{Step}
 use Rattle.gv_split.specs.declared.step.Step.TheVariants.{Map}
 use Rattle.gv_split.specs.Steps.{gives_way, step_in, step_of, steps}
-use Rattle.gv_split.specs.CarriedOut.{given_index, begins_before, put_in, carried_out_one, carried_out, CanBeCarriedOut, ArePresent, without_buffer, list_after}
+use Rattle.gv_split.specs.CarriedOut.{replaced_by, begins_before, put_in, carried_out_one, carried_out, CanBeCarriedOut, ArePresent, without_buffer, list_after}
 use Rattle.gv_split.specs.Laws.{StepsMakeTheList, StepsArePresent}
 
 -- the steps can be carried out on the one list, and make the other
@@ -52,24 +52,24 @@ some_then (step ∷ first) later old between new here there =
     (rest.0, (here.1.0, rest.1))
 
 -- mappings that begin at other pages keep their indices
-given_index-others : (old : Mapping) (new ms : List Mapping) → All (λ m. (m.range.first == old.range.first) ≡ false) ms → given_index old new ms ≡ ms
-given_index-others old new [] all = refl
-given_index-others old new (m ∷ ms) all =
+replaced_by-others : (old : Mapping) (new ms : List Mapping) → All (λ m. (m.range.first == old.range.first) ≡ false) ms → replaced_by old new ms ≡ ms
+replaced_by-others old new [] all = refl
+replaced_by-others old new (m ∷ ms) all =
     let here : (m.range.first == old.range.first) ≡ false = All-head (λ (n : Mapping). (n.range.first == old.range.first) ≡ false) m ms all in
-    let rest : given_index old new ms ≡ ms = given_index-others old new ms (All-tail (λ (n : Mapping). (n.range.first == old.range.first) ≡ false) m ms all) in
+    let rest : replaced_by old new ms ≡ ms = replaced_by-others old new ms (All-tail (λ (n : Mapping). (n.range.first == old.range.first) ≡ false) m ms all) in
     rw (here, rest) refl
 
 abbrev BeginBelow : ℕ → List Mapping → Type 0
 BeginBelow page = All (λ (m : Mapping). m.range.first < page)
 
 -- in a list in order a mapping gives its place between the others
-given_index-between : (old : Mapping) (new before later : List Mapping) → BeginBelow old.range.first before → IsMapping old →
-    IsLaidOutFrom (end_of old.range) later → given_index old new (before ++ old ∷ later) ≡ before ++ (new ++ later)
-given_index-between old new before later below is laid =
-    let front : given_index old new before ≡ before =
-    given_index-others old new before (λ k d within. let h : (get_or before k d).range.first < old.range.first = below k d within in ne_eqb _ _ (λ same. omega arith)) in
-    let back : given_index old new later ≡ later =
-    given_index-others old new later (λ k d within. let h : end_of old.range ≤ (get_or later k d).range.first = first_above later (end_of old.range) k d laid within in
+replaced_by-between : (old : Mapping) (new before later : List Mapping) → BeginBelow old.range.first before → IsMapping old →
+    IsLaidOutFrom (end_of old.range) later → replaced_by old new (before ++ old ∷ later) ≡ before ++ (new ++ later)
+replaced_by-between old new before later below is laid =
+    let front : replaced_by old new before ≡ before =
+    replaced_by-others old new before (λ k d within. let h : (get_or before k d).range.first < old.range.first = below k d within in ne_eqb _ _ (λ same. omega arith)) in
+    let back : replaced_by old new later ≡ later =
+    replaced_by-others old new later (λ k d within. let h : end_of old.range ≤ (get_or later k d).range.first = first_above later (end_of old.range) k d laid within in
     let some : 0 < old.range.count = is.0.0 in ne_eqb _ _ (λ same. omega arith)) in
     let here : (old.range.first == old.range.first) ≡ true = eq-eqb _ _ refl in
     flat_map-append (λ (m : Mapping). cond (m.range.first == old.range.first) new (m ∷ [])) before (old ∷ later)
@@ -86,7 +86,7 @@ rests_of (UnmapOp range) m = rests_beside range m
 rests_of (UnmapBuffer buffer) m = []
 
 carried_out-step_in : (op : PageOp) (m : Mapping) (ms : List Mapping) →
-    carried_out_one (step_in op m) ms ≡ given_index m (rests_beside (range_of op) m) ms
+    carried_out_one (step_in op m) ms ≡ replaced_by m (rests_beside (range_of op) m) ms
 carried_out-step_in op m ms =
     ⊎_elim
     (λ (inside : lies_in m.range (range_of op) ≡ true).
@@ -96,7 +96,7 @@ carried_out-step_in op m ms =
     (cases_Bool (lies_in m.range (range_of op)))
 
 -- a step for a mapping that gives way puts its rests in its place
-carried_out-step_of : (op : PageOp) (m : Mapping) (ms : List Mapping) → carried_out_one (step_of op m) ms ≡ given_index m (rests_of op m) ms
+carried_out-step_of : (op : PageOp) (m : Mapping) (ms : List Mapping) → carried_out_one (step_of op m) ms ≡ replaced_by m (rests_of op m) ms
 carried_out-step_of (MapOp range backing flags) m ms = carried_out-step_in (MapOp range backing flags) m ms
 carried_out-step_of (UnmapOp range) m ms = carried_out-step_in (UnmapOp range) m ms
 carried_out-step_of (UnmapBuffer buffer) m ms = refl
@@ -152,7 +152,7 @@ run_carried_out op low before (m ∷ ms) below laid =
     ⊎_elim
     (λ (gives : gives_way op m ≡ true).
     let turn : carried_out_one (step_of op m) (before ++ m ∷ ms) ≡ (before ++ rests_of op m) ++ ms =
-    carried_out-step_of op m (before ++ m ∷ ms) ∙ given_index-between m (rests_of op m) before ms here laid.1 laid.2 ∙ sym (append_assoc before (rests_of op m) ms) in
+    carried_out-step_of op m (before ++ m ∷ ms) ∙ replaced_by-between m (rests_of op m) before ms here laid.1 laid.2 ∙ sym (append_assoc before (rests_of op m) ms) in
     let later : AreCarriedOutTo (map (step_of op) (filter (gives_way op) ms)) ((before ++ rests_of op m) ++ ms) ((before ++ rests_of op m) ++ left_by op ms) =
     run_carried_out op (end_of m.range) (before ++ rests_of op m) ms
     (begin_below_later before (rests_of op m) low (end_of m.range) below (omega arith) (rests_begin_below op m)) laid.2 in

@@ -1,2 +1,2 @@
 pub mod CarriedOutLemmas
-pub mod WithoutBuffer
+pub mod UnmapWholeBuffer

@@ -13,8 +13,8 @@ use Rattle.gv_split.specs.declared.step.Step.{Step}
 use Rattle.gv_split.specs.declared.step.Step.TheVariants.{Unmap, Remap, Map}
 
 -- the mapping that begins where this one does gives its place to these; no two of a list begin at one page
-abbrev pub given_index : Mapping → List Mapping → List Mapping → List Mapping
-given_index old new = flat_map (λ m. if m.range.first == old.range.first then new else m ∷ [])
+abbrev pub replaced_by : Mapping → List Mapping → List Mapping → List Mapping
+replaced_by old new = flat_map (λ m. if m.range.first == old.range.first then new else m ∷ [])
 
 abbrev pub begins_before : Mapping → Mapping → Bool
 begins_before new m = nat_lt m.range.first new.range.first
@@ -26,8 +26,8 @@ put_in new ms = filter (begins_before new) ms ++ new ∷ filter (λ m. not (begi
 -- what a driver does for one step: an unmap takes its mapping out, a remap puts its rests in the mapping's place, and a
 -- map puts its mapping in
 abbrev pub carried_out_one : Step → List Mapping → List Mapping
-carried_out_one (Unmap old keep) = given_index old []
-carried_out_one (Remap old prev next keep) = given_index old (option_to_list prev ++ option_to_list next)
+carried_out_one (Unmap old keep) = replaced_by old []
+carried_out_one (Remap old prev next keep) = replaced_by old (option_to_list prev ++ option_to_list next)
 carried_out_one (Map new) = put_in new
 
 -- the list after the steps, one after another from the first to the last

@@ -1,5 +1,5 @@
 pub mod Shares
-pub mod Rises
+pub mod StepsKeepRule
 pub mod Raised
-pub mod Turns
+pub mod SeatSteps
 pub mod LookLemmas

@@ -7,7 +7,7 @@ use Rattle.gv_sync.specs.declared.marks.Mark.{Mark}
 use Rattle.gv_sync.specs.Marks.{IsNoLess, fresh_mark, mark, mark_at}
 use Rattle.gv_sync.specs.Seats.{SeatState, after_load, mark_of, split_from}
 use native.Mathlib.Decide.{dec_lt}
-use Rattle.gv_sync.specs.Turns.{HasLooked}
+use Rattle.gv_sync.specs.SeatSteps.{HasLooked}
 
 pub no_looks : (seat : SeatState) → HasLooked seat seat
 no_looks seat = record {

@@ -3,5 +3,5 @@ pub mod Rule
 pub mod Seats
 pub mod Sights
 pub mod Raises
-pub mod Turns
+pub mod SeatSteps
 pub mod Laws

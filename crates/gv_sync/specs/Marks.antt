@@ -2,7 +2,7 @@
 use Rattle.std.specs.Prelude.{◌≡◌, ◌≢◌, ℕ, ◌+◌, ◌≤◌, List, [], map, max, replicate, slice_index_or, slice_set}
 use Rattle.gv_types.specs.declared.request.Point.{Point}
 use Rattle.gv_sync.specs.declared.marks.Mark.{Mark}
-use Rattle.gv_sync.specs.declared.marks.Known.{Known}
+use Rattle.gv_sync.specs.declared.marks.SeatKnowledge.{SeatKnowledge}
 
 abbrev pub mark : ℕ → ℕ → ℕ → Mark
 mark seen raised taken = record { seen = seen; raised = raised; taken = taken }
@@ -30,19 +30,19 @@ marks_after_raise marks timeline value number =
 abbrev pub marks_split_off : List Mark → List Mark
 marks_split_off marks = map (λ (m : Mark). mark m.seen 0 0) marks
 
-abbrev pub known : List Mark → List Point → ℕ → Known
+abbrev pub known : List Mark → List Point → ℕ → SeatKnowledge
 known marks raises halvings = record { marks = marks; raises = raises; halvings = halvings }
 
 -- what the first seat of so many timelines knows: it has the whole
-abbrev pub first_known : ℕ → Known
+abbrev pub first_known : ℕ → SeatKnowledge
 first_known count = known (replicate count fresh_mark) [] 0
 
 -- what a seat knows after one was split off it: as much, with half its share
-abbrev pub known_after_split : Known → Known
+abbrev pub known_after_split : SeatKnowledge → SeatKnowledge
 known_after_split old = known old.marks old.raises (old.halvings + 1)
 
 -- what the seat knows that was split off: it has the other half
-abbrev pub known_split_off : Known → Known
+abbrev pub known_split_off : SeatKnowledge → SeatKnowledge
 known_split_off old = known (marks_split_off old.marks) [] (old.halvings + 1)
 
 -- one step was taken on this timeline, and nothing is known anew of the others

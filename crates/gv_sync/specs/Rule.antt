@@ -4,11 +4,11 @@ use mathlib.Core.Option.{some}
 use lib.ListN.{get_elem?}
 use Rattle.atomic_table.specs.Table.{State, Me, Step}
 use Rattle.gv_sync.specs.declared.marks.Mark.{Mark}
-use Rattle.gv_sync.specs.declared.marks.Known.{Known}
+use Rattle.gv_sync.specs.declared.marks.SeatKnowledge.{SeatKnowledge}
 use Rattle.gv_sync.specs.Marks.{IsNoLess, mark_at, marks_after_load, marks_after_raise}
 
 -- the seat with this number knows this
-abbrev pub Knows : List Known → ℕ → Known → Type 0
+abbrev pub Knows : List SeatKnowledge → ℕ → SeatKnowledge → Type 0
 Knows seats seat known = get_elem? seats seat ≡ some known
 
 -- a seat raised a timeline no higher than it saw it, and saw it no higher than it is
@@ -18,38 +18,38 @@ pub record RaisedWhatItSaw (words : List ℕ) (marks : List Mark) : Type 0 where
   pub seen : (timeline : ℕ) → (mark_at marks timeline).seen ≤ slice_index words timeline
 
 -- the timeline is 0, or some seat raised it to what it is
-abbrev pub IsRaised : List ℕ → List Known → ℕ → Type 0
+abbrev pub IsRaised : List ℕ → List SeatKnowledge → ℕ → Type 0
 IsRaised words seats timeline =
     (slice_index words timeline ≡ 0)
-    ⊎ ((seat : ℕ) × (known : Known) × Knows seats seat known
+    ⊎ ((seat : ℕ) × (known : SeatKnowledge) × Knows seats seat known
     × ((mark_at known.marks timeline).raised ≡ slice_index words timeline))
 
 -- a seat's share of a whole of 2 ^ most parts
-abbrev pub share : ℕ → Known → ℕ
+abbrev pub share : ℕ → SeatKnowledge → ℕ
 share most known = 2 ^ (most - known.halvings)
 
 -- no seat's share was halved more often
-abbrev pub AreHalvedAtMost : ℕ → List Known → Type 0
+abbrev pub AreHalvedAtMost : ℕ → List SeatKnowledge → Type 0
 AreHalvedAtMost most seats =
-    (seat : ℕ) (known : Known) → Knows seats seat known → known.halvings ≤ most
+    (seat : ℕ) (known : SeatKnowledge) → Knows seats seat known → known.halvings ≤ most
 
 -- the shares of all seats add up to the whole: no seat came from elsewhere, and none is forgotten
-abbrev pub AreOneWhole : List Known → Type 0
+abbrev pub AreOneWhole : List SeatKnowledge → Type 0
 AreOneWhole seats =
     (most : ℕ) → AreHalvedAtMost most seats → sum_by (share most) seats ≡ 2 ^ most
 
 -- the words and what all seats know, dropped ones too, agree
-pub record SeatsAgree (count : ℕ) (s : State ℕ Known) : Type 0 where
+pub record SeatsAgree (count : ℕ) (s : State ℕ SeatKnowledge) : Type 0 where
   pub counted : length s.words ≡ count
-  pub within : (seat : ℕ) (known : Known) → Knows s.views seat known → RaisedWhatItSaw s.words known.marks
+  pub within : (seat : ℕ) (known : SeatKnowledge) → Knows s.views seat known → RaisedWhatItSaw s.words known.marks
   pub raised : (timeline : ℕ) → IsRaised s.words s.views timeline
   pub shared : AreOneWhole s.views
 
 abbrev pub Holder : Type 0
-Holder = Me ℕ Known
+Holder = Me ℕ SeatKnowledge
 
 -- a seat with the whole is the only one: a number is what it raised it to
-abbrev pub IsOwnRaise : Known → ℕ → ℕ → Type 0
+abbrev pub IsOwnRaise : SeatKnowledge → ℕ → ℕ → Type 0
 IsOwnRaise known timeline number =
     known.halvings ≡ 0 → number ≡ (mark_at known.marks timeline).raised
 

@@ -1,4 +1,4 @@
-//! The same numbers as a plain list, for one thread.
+//! `Clock`: timelines for one thread alone, as a plain list of numbers. It measures no time.
 ghost use Rattle.std.specs.Prelude.{◌≡◌, ◌<◌, ◌≤◌, ◌↔◌, ◌∷◌, ◌++◌, [], List};
 ghost use Rattle.std.specs.Prelude.{IfOk, IsOk, length, replicate, slice_index};
 ghost use Rattle.gv_types.specs.Limits.{IsFromOneTo};

@@ -3,7 +3,7 @@ ghost use Rattle.gv_sync.specs.Laws.{LoadKeepsRule, NewTimelinesAgree, RaiseKeep
 ghost use Rattle.gv_sync.specs.Laws.{SplitKeepsRule};
 ghost use Rattle.gv_sync.specs.Laws.{NoSeatFromElsewhere, WholeIsTheOnlySeat, WholeRaisedAll};
 ghost use Rattle.gv_sync.specs.Laws.{RaisedIsGreatest, RaisedIsReached, RaisedOnceMore};
-ghost use Rattle.gv_sync.specs.Turns.{NoRaisesYet, OneMoreRaise};
+ghost use Rattle.gv_sync.specs.SeatSteps.{NoRaisesYet, OneMoreRaise};
 
 /// A timeline after a list of raises is the greatest of them, or 0.
 pub fn raises()
@@ -33,7 +33,7 @@ pub fn shares()
 {}
 
 /// What a seat is after several raises, for a caller that makes them one by one.
-pub fn turns()
+pub fn seat_raises()
     ensures none { NoRaisesYet }
     ensures one_more { OneMoreRaise }
 {}

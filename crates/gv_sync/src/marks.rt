@@ -12,7 +12,7 @@ pub struct Mark {
 
 /// A mark for each timeline, the points that the seat raised to, in order, and how often its share
 /// was halved: the first seat has the whole, and each split halves a share.
-pub struct Known {
+pub struct SeatKnowledge {
     pub marks: LinkedList<Mark>,
     pub raises: LinkedList<Point>,
     pub halvings: u64,

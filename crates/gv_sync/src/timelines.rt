@@ -6,7 +6,7 @@ ghost use Rattle.gv_sync.specs.Seats.{IsOnlySeat, IsSeatOf, after_load, after_ra
 ghost use Rattle.gv_sync.specs.Seats.{timeline_count, first_seat, mark_of, most_timelines, split_from};
 ghost use Rattle.gv_sync.specs.Sights.{number_seen, sight_of};
 
-use crate::marks::Known;
+use crate::marks::SeatKnowledge;
 use crate::sights::{Lacking, Reached, compare};
 use atomic_table::{Play, Split, Table, TableRule};
 use gv_types::Point;
@@ -32,7 +32,7 @@ impl From<AllocError> for SyncFault {
 
 struct Rule;
 
-impl TableRule<u8, Known, usize> for Rule {
+impl TableRule<u8, SeatKnowledge, usize> for Rule {
     ghost use Rattle.gv_sync.specs.Marks.{first_known};
     ghost use Rattle.gv_sync.specs.Rule.{SeatsAgree};
 
@@ -43,7 +43,7 @@ impl TableRule<u8, Known, usize> for Rule {
 
 struct Load;
 
-impl Play<u8, Known> for Load {
+impl Play<u8, SeatKnowledge> for Load {
     ghost use Rattle.gv_sync.specs.Rule.{Loaded};
 
     ghost then = { Loaded };
@@ -51,7 +51,7 @@ impl Play<u8, Known> for Load {
 
 struct Raise;
 
-impl Play<u8, Known> for Raise {
+impl Play<u8, SeatKnowledge> for Raise {
     ghost use Rattle.gv_sync.specs.Rule.{Raised};
 
     ghost then = { Raised };
@@ -59,7 +59,7 @@ impl Play<u8, Known> for Raise {
 
 struct Share;
 
-impl Split<Known> for Share {
+impl Split<SeatKnowledge> for Share {
     ghost use Rattle.gv_sync.specs.Marks.{known_after_split, known_split_off};
 
     ghost left = { known_after_split };
@@ -70,7 +70,7 @@ impl Split<Known> for Share {
 /// Numbers that only rise, each 0 at first. A clause sees which they are, and how many.
 #[derive(Drop)]
 pub struct Timelines {
-    table: Table<u8, Known, usize, Rule, Global>,
+    table: Table<u8, SeatKnowledge, usize, Rule, Global>,
 }
 
 impl Model for Timelines {
@@ -92,7 +92,7 @@ impl Model for Timelines {
 /// What one thread knows of the timelines. It has no bytes.
 #[derive(Drop)]
 pub struct Seat {
-    pass: atomic_table::Seat<u8, Known>,
+    pass: atomic_table::Seat<u8, SeatKnowledge>,
 }
 
 impl Model for Seat {
@@ -133,7 +133,7 @@ impl Timelines {
         Timelines::over(alloc, &zeros[..count as usize])
     }
 
-    #[tactic(auto, using(crate::proofs::Rises::begins))]
+    #[tactic(auto, using(crate::proofs::StepsKeepRule::begins))]
     fn over(alloc: Global, words: &[u64]) -> Result<(Timelines, Seat), SyncFault>
         requires count { IsFromOneTo most_timelines (length words.now) }
         requires zero { All (λ n. n ≡ 0) words.now }

@@ -13,12 +13,12 @@ use Rattle.gv_types.specs.declared.operation.PageOp.{PageOp}
 use Rattle.gv_types.specs.declared.operation.PageOp.TheVariants.{Map, Unmap, UnmapBuffer}
 use Rattle.gv_ranges.specs.Edit.{LieIn, clipped, replaced, edited}
 use Rattle.gv_ranges.proofs.ClipLemmas.{clip_whole}
-use Rattle.gv_ranges.proofs.KeptLemmas.{clip_is_piece, All-clipped}
+use Rattle.gv_ranges.proofs.AllReplacedLemmas.{clip_is_piece, All-clipped}
 use Rattle.gv_ranges.proofs.OrderLemmas.{IsMapping-piece}
 use Rattle.gv_ranges.proofs.ReplacedLemmas.{clipped_none, all_mappings}
 use Rattle.gv_table.specs.Reads.{AreAlikeOutside}
 use Rattle.gv_table.specs.Laws.{ReplacedListIsAlike, ReplacedListHasPieces, AlikeIsMutual}
-use Rattle.gv_table.proofs.Spans.{lies-bounds, lies-from}
+use Rattle.gv_table.proofs.RangesMeet.{lies-bounds, lies-from}
 
 abbrev IsBetween : ℕ → ℕ → Mapping → Type 0
 IsBetween low high m = IsInSpace m.range × (low ≤ m.range.first) × (end_of m.range ≤ high)

@@ -1,6 +1,6 @@
--- The two kinds of tables, told apart.
+-- The two kinds of tables, apart.
 use Rattle.std.proofs.Common.{◌≡◌, ◌<◌, ℕ, zero, suc, refl, arith, ap, ◌∙◌}
-use Rattle.gv_table.specs.declared.tables.Tables.{Tables}
+use Rattle.gv_table.specs.declared.kind_counts.KindCounts.{KindCounts}
 use Rattle.gv_table.specs.Kinds.{Kind, pages, slots, one_of, of, each, none, AreEnough}
 
 -- what holds of either kind holds of each
@@ -23,14 +23,14 @@ none-is pages = refl
 none-is slots = refl
 
 -- as many as needed are enough
-pub enough-same : {need tables : Tables} → need ≡ tables → AreEnough tables need
+pub enough-same : {need tables : KindCounts} → need ≡ tables → AreEnough tables need
 enough-same e kind = omega (arith, ap (of kind) e)
 
 -- none is needed but where nothing is
-pub sums-same : {one other : Tables} → ((kind : Kind) → of kind one ≡ of kind other) → one ≡ other
+pub sums-same : {one other : KindCounts} → ((kind : Kind) → of kind one ≡ of kind other) → one ≡ other
 sums-same {one = one} {other = other} same =
-    let with_pages : ℕ → Tables = λ n. record { pages = n; slots = one.slots } in
-    let with_slots : ℕ → Tables = λ n. record { pages = other.pages; slots = n } in
+    let with_pages : ℕ → KindCounts = λ n. record { pages = n; slots = one.slots } in
+    let with_slots : ℕ → KindCounts = λ n. record { pages = other.pages; slots = n } in
     ap with_pages (same pages) ∙ ap with_slots (same slots)
 
 pub each-of : (f : Kind → ℕ) (kind : Kind) → of kind (each f) ≡ f kind

@@ -14,13 +14,13 @@ use Rattle.gv_table.specs.Leaves.{IsLeafOf}
 use Rattle.gv_table.specs.Levels.{pages_of, slot_pages}
 use Rattle.gv_table.specs.Patch.{IsPatched}
 use Rattle.gv_table.specs.Shape.{IsShaped}
-use Rattle.gv_table.specs.Tree.{HoldsWanted, IsTreeOf, IsToldOutside, is_table}
+use Rattle.gv_table.specs.Tree.{HoldsWanted, IsTreeOf, IsEncodableOutside, is_table}
 use Rattle.gv_table.specs.Wanted.{wanted, is_divided}
-use Rattle.gv_table.proofs.Counts.{lost-same, tables_at-same}
-use Rattle.gv_table.proofs.Covered.{true-or-false}
-use Rattle.gv_table.proofs.Matches.{match-by}
+use Rattle.gv_table.proofs.TablesInSlots.{lost-same, tables_at-same}
+use Rattle.gv_table.proofs.CoveringMappings.{true-or-false}
+use Rattle.gv_table.proofs.TablesAsWanted.{match-by}
 use Rattle.gv_table.proofs.PagesOf.{part-within}
-use Rattle.gv_table.proofs.Painted.{row_lost-zero}
+use Rattle.gv_table.proofs.NextSlotPainted.{row_lost-zero}
 use Rattle.gv_table.proofs.Patched.{patched-wanted}
 use Rattle.gv_table.proofs.Shapes.{shaped-other}
 use Rattle.gv_table.proofs.Sums.{sum_below-same}
@@ -76,7 +76,7 @@ module _ (pieces : List Mapping) (range : PageRangeState) (level first : ℕ) (r
   -- it fits each list that the pieces tell of, and loses no table
   module _ (ms : List Mapping) (held : PageRangeState) (is : IsPatched ms pieces range held) (laid : IsLaidOut pieces) (some : 0 < level)
       (within : first + 512 * pages_of level ≤ PAGES)
-      (told : (k : ℕ) → k < 512 → IsToldOutside ms range level (first + k * pages_of level) (slice_index_or row k Empty)) where
+      (encoded : (k : ℕ) → k < 512 → IsEncodableOutside ms range level (first + k * pages_of level) (slice_index_or row k Empty)) where
     pub leaves-tree : (k : ℕ) → k < 512 → IsTreeOf ms level (first + k * pages_of level) (slice_index_or after k Empty)
     leaves-tree k below =
         elim (true-or-false (meets (slot_pages level (first + k * pages_of level)) range)) [
@@ -87,7 +87,7 @@ module _ (pieces : List Mapping) (range : PageRangeState) (level first : ℕ) (r
           | inr apart ↦ (
               let fits = part-within k (512 * pages_of level) (pages_of level) below refl in
               subst (λ (s : Slot). IsTreeOf ms level (first + k * pages_of level) s) (sym (outside k below apart))
-              (outside-apart ms range level (first + k * pages_of level) (slice_index_or row k Empty) is.laid_out (told k below) (omega (arith, fits, within)) apart))
+              (outside-apart ms range level (first + k * pages_of level) (slice_index_or row k Empty) is.laid_out (encoded k below) (omega (arith, fits, within)) apart))
         ]
 
     pub leaves-lost : (kind : Kind) → row_lost kind ms level first row ≡ 0

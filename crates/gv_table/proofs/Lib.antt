@@ -1,35 +1,35 @@
 pub mod Sums
 pub mod KindLemmas
-pub mod Spans
+pub mod RangesMeet
 pub mod PagesOf
 pub mod Slots
 mod PageChains
-pub mod Counts
+pub mod TablesInSlots
 mod Unnamed
-pub mod Covered
-pub mod Clips
-pub mod Positions
+pub mod CoveringMappings
+pub mod AlikeLists
+pub mod ListPositions
 pub mod Wants
 pub mod Trees
 mod Shapes
-pub mod Rows
+pub mod RowLoops
 pub mod Named
 pub mod NamedTrees
-pub mod Words
-pub mod Written
-mod Runs
-pub mod Matches
-pub mod Painted
-pub mod InOne
-mod Kept
-pub mod Whole
+pub mod PageSlotDecoding
+pub mod SlotWrittenBack
+mod RunOfPages
+pub mod TablesAsWanted
+pub mod NextSlotPainted
+pub mod OneSlotPainted
+mod SameTables
+pub mod UniformSlots
 pub mod Needs
-mod Around
-pub mod Foresight
+mod NeedsOfOnePart
+pub mod GainedAtMostNeeded
 pub mod EditLemmas
-pub mod LikenessLemmas
-pub mod Fewness
-pub mod Counting
+pub mod SameTreeLemmas
+pub mod FewerTablesThanPages
+pub mod TableCountUpdates
 mod Patched
 mod LeafRows
-mod BothWays
+mod GainsUndoLosses

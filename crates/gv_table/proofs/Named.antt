@@ -13,7 +13,7 @@ use Rattle.gv_table.specs.declared.slot.Slot.TheViews.{roll-Slot, roll-out-Slot,
 use Rattle.gv_table.specs.declared.slot.Slot.TheOpen as layer
 use Rattle.gv_table.specs.Kinds.{Kind}
 use Rattle.gv_table.specs.Levels.{pages_of}
-use Rattle.gv_table.specs.Names.{PageSlot}
+use Rattle.gv_table.specs.BufferNames.{PageSlot}
 use Rattle.gv_table.specs.Named.{named_backing, named_entry, named_page, named_page_layer, named}
 use Rattle.gv_table.specs.Counts.{tables_at, gained, lost, needed}
 use Rattle.gv_table.specs.Tree.{is_table, child, leaf, leaf_with, no_page, slot_of}

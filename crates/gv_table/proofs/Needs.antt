@@ -10,7 +10,7 @@ use Rattle.gv_table.specs.Sums.{sum_below}
 use Rattle.gv_table.specs.Wanted.{wanted, is_divided}
 use Rattle.gv_table.specs.Tree.{is_table, child}
 use Rattle.gv_table.specs.Counts.{needed, may_divide}
-use Rattle.gv_table.proofs.Covered.{true-or-false}
+use Rattle.gv_table.proofs.CoveringMappings.{true-or-false}
 use Rattle.gv_table.proofs.Sums.{sum_below-zeros}
 use Rattle.std.proofs.Math.Nat.{add-mul}
 
@@ -51,9 +51,9 @@ needed-parts kind pieces range zero first slot some may = absurd (omega arith)
 needed-parts kind pieces range (suc level) first slot some may = let lower : suc level - 1 ≡ level = omega arith in rw (may, lower) refl
 
 -- a page needs no table, and a slot of pages none where its table stands
-pub needed-standing : (kind : Kind) (pieces : List Mapping) (range : PageRangeState) (level first : ℕ) (slot : Slot) → level ≤ 1 → is_table slot ≡ true →
+pub needed-present : (kind : Kind) (pieces : List Mapping) (range : PageRangeState) (level first : ℕ) (slot : Slot) → level ≤ 1 → is_table slot ≡ true →
     needed kind pieces range level first slot ≡ 0
-needed-standing kind pieces range level first slot low stands =
+needed-present kind pieces range level first slot low stands =
     elim (true-or-false (may_divide pieces range level first)) [
       | inr whole ↦ needed-none kind pieces range level first slot whole
       | inl may ↦ elim (cases_lt 0 level) [

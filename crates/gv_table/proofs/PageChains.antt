@@ -1,6 +1,6 @@
 -- Chains of empty tables of single pages.
 use Rattle.std.proofs.Common.{◌≡◌, ◌∙◌, ℕ, zero, suc, ◌+◌, ◌-◌, ◌<◌, true, false, List, Box, Global, refl, arith, sym, ap, subst, rules, add-one}
-use Rattle.gv_table.specs.Names.{PageSlot}
+use Rattle.gv_table.specs.BufferNames.{PageSlot}
 use Rattle.gv_table.specs.declared.slot.Slot.{Slot, out-Slot, the_lemmas}
 use Rattle.gv_table.specs.declared.slot.Slot.TheVariants.{Empty, Pages, Table}
 use Rattle.gv_table.specs.declared.slot.Slot.TheOpen as layer

@@ -1,4 +1,4 @@
--- A list that pieces tell of in a range, told by indexes alone.
+-- A list that pieces tell of in a range, encoded by indexes alone.
 use Rattle.std.proofs.Common.{◌≡◌, ◌∙◌, ℕ, true, false, List, get_or, arith, refl, sym, ap, subst}
 use Rattle.std.proofs.lemmas.List.{length-map, get_or-map}
 use Rattle.gv_types.specs.PageRange.{PageRangeState, end_of, covers, meets, lies_in}
@@ -8,14 +8,14 @@ use Rattle.gv_ranges.specs.List.{at, IsLaidOut}
 use Rattle.gv_ranges.specs.Edit.{clipped}
 use Rattle.gv_ranges.proofs.ClipLemmas.{at-clipped}
 use Rattle.gv_table.specs.Levels.{slot_pages}
-use Rattle.gv_table.specs.Names.{unnamed_mapping, unnamed}
+use Rattle.gv_table.specs.BufferNames.{unnamed_mapping, unnamed}
 use Rattle.gv_table.specs.Patch.{IsPatched}
 use Rattle.gv_table.specs.Wanted.{wanted}
 use Rattle.gv_table.specs.declared.wanted.Wanted.TheVariants as variant
-use Rattle.gv_table.proofs.Clips.{alike-inside}
-use Rattle.gv_table.proofs.Covered.{met-at}
+use Rattle.gv_table.proofs.AlikeLists.{alike-inside}
+use Rattle.gv_table.proofs.CoveringMappings.{met-at}
 use Rattle.gv_table.proofs.PagesOf.{pages_of-some}
-use Rattle.gv_table.proofs.Spans.{covers-bounds, lies-bounds}
+use Rattle.gv_table.proofs.RangesMeet.{covers-bounds, lies-bounds}
 use Rattle.gv_table.proofs.Unnamed.{clipped-unnamed, laid_out-unnamed}
 use Rattle.gv_table.proofs.Wants.{wanted-alike, wanted-table}
 

@@ -1,7 +1,7 @@
 -- The shape of a tree, slot by slot.
 use Rattle.std.proofs.Common.{◌≡◌, ◌≢◌, ℕ, zero, suc, ◌-◌, ◌<◌, false, List, length, slice_index_or, slice_set, Box, Global, arith, sym, subst, inl, inr, ◌⊎◌}
 use Rattle.std.proofs.lemmas.List.{get_or-set_same, get_or-set_other}
-use Rattle.gv_table.specs.Names.{PageSlot}
+use Rattle.gv_table.specs.BufferNames.{PageSlot}
 use Rattle.gv_table.specs.declared.slot.Slot.{Slot, out-Slot}
 use Rattle.gv_table.specs.declared.slot.Slot.TheVariants.{Empty, Pages, Table}
 use Rattle.gv_table.specs.declared.slot.Slot.TheOpen as layer

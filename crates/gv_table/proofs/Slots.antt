@@ -7,7 +7,7 @@ use Rattle.gv_types.specs.declared.mapping.Backing.TheVariants as backing
 use Rattle.gv_types.specs.declared.mapping.BufferId.{BufferId}
 use Rattle.gv_types.specs.declared.mapping.Entry.{Entry}
 use Rattle.gv_types.specs.declared.mapping.Flags.{Flags}
-use Rattle.gv_table.specs.Names.{PageSlot}
+use Rattle.gv_table.specs.BufferNames.{PageSlot}
 use Rattle.gv_table.specs.declared.slot.Slot.{Slot, out-Slot, the_lemmas}
 use Rattle.gv_table.specs.declared.slot.Slot.TheVariants.{Empty, Zero, Buffer, Pages, Table}
 use Rattle.gv_table.specs.declared.slot.Slot.TheOpen as layer
@@ -65,21 +65,21 @@ pub slot_of-none : slot_of no_page ≡ Empty
 unfolding slot_of
 slot_of-none = refl
 
-told-other : (b : Bool) (one other : Slot) → is_table one ≡ false → is_table other ≡ false → is_table (if b then one else other) ≡ false
-told-other true one other a b = a
-told-other false one other a b = b
+encoded-other : (b : Bool) (one other : Slot) → is_table one ≡ false → is_table other ≡ false → is_table (if b then one else other) ≡ false
+encoded-other true one other a b = a
+encoded-other false one other a b = b
 
 -- a page is no table
 pub page-other : (p : PageSlot) → is_table (slot_of p) ≡ false
 unfolding slot_of
 page-other p =
     let head : ℕ = p / 2 ^ 40 in
-    told-other (p == 0) Empty _ is_table-Empty
-    (told-other (nat_lt head 3) _ _ (is_table-Zero (record { read_only = head == 2 })) (is_table-Buffer (record { read_only = (head - 3) % 2 == 1 }) _ _))
+    encoded-other (p == 0) Empty _ is_table-Empty
+    (encoded-other (nat_lt head 3) _ _ (is_table-Zero (record { read_only = head == 2 })) (is_table-Buffer (record { read_only = (head - 3) % 2 == 1 }) _ _))
 
-told-some : (b : Bool) (flags flags' : Flags) (id : BufferId) (page : ℕ) → (if b then Zero flags else Buffer flags' id page) ≡ Empty → ⊥
-told-some true flags flags' id page e = cc
-told-some false flags flags' id page e = cc
+encoded-some : (b : Bool) (flags flags' : Flags) (id : BufferId) (page : ℕ) → (if b then Zero flags else Buffer flags' id page) ≡ Empty → ⊥
+encoded-some true flags flags' id page e = cc
+encoded-some false flags flags' id page e = cc
 
 word-by : (b : Bool) (rest : Slot) → (rest ≡ Empty → ⊥) → (if b then Empty else rest) ≡ Empty → b ≡ true
 word-by true rest some e = refl
@@ -93,7 +93,7 @@ pub empty-page : (p : PageSlot) → slot_of p ≡ Empty → p ≡ no_page
 unfolding slot_of
 empty-page p e =
     let head : ℕ = p / 2 ^ 40 in
-    is-zero p (word-by (p == 0) _ (told-some (nat_lt head 3) (record { read_only = head == 2 }) (record { read_only = (head - 3) % 2 == 1 }) _ _) e)
+    is-zero p (word-by (p == 0) _ (encoded-some (nat_lt head 3) (record { read_only = head == 2 }) (record { read_only = (head - 3) % 2 == 1 }) _ _) e)
 
 -- a slot of a variant that is no table
 pub no-table : (slot : Slot) →

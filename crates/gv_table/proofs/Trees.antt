@@ -10,16 +10,16 @@ use Rattle.gv_table.specs.declared.wanted.Wanted.{Wanted}
 use Rattle.gv_table.specs.declared.wanted.Wanted.TheVariants as variant
 use Rattle.gv_table.specs.declared.slot.Slot.{Slot}
 use Rattle.gv_table.specs.declared.slot.Slot.TheVariants.{Empty, Pages, Table}
-use Rattle.gv_table.specs.Names.{PageSlot, IsTold, AreTold}
+use Rattle.gv_table.specs.BufferNames.{PageSlot, IsEncodable, AreEncodable}
 use Rattle.gv_table.specs.Levels.{pages_of, slot_pages}
 use Rattle.gv_table.specs.Reads.{any_meets, covering, AreAlikeOutside}
 use Rattle.gv_types.specs.Mapping.{entry_advanced}
 use Rattle.gv_table.specs.Wanted.{wanted}
-use Rattle.gv_table.specs.Tree.{is_table, child, leaf, HasNoEntry, page_slot, no_page, slot_of, HoldsWanted, IsTreeOf, IsToldOutside}
+use Rattle.gv_table.specs.Tree.{is_table, child, leaf, HasNoEntry, page_slot, no_page, slot_of, HoldsWanted, IsTreeOf, IsEncodableOutside}
 use Rattle.gv_table.proofs.PagesOf.{pages_of-zero, pages_of-some, pages_of-more, pages_of-below, part-within}
-use Rattle.gv_table.proofs.Spans.{apart-cases, meets-after, meets-before}
-use Rattle.gv_table.proofs.Covered.{true-or-false, at-covering, covering-none, covering-part, covering-small, covering-told, any_meets-part}
-use Rattle.gv_table.proofs.Clips.{alike-outside}
+use Rattle.gv_table.proofs.RangesMeet.{apart-cases, meets-after, meets-before}
+use Rattle.gv_table.proofs.CoveringMappings.{true-or-false, at-covering, covering-none, covering-part, covering-small, covering-encoded, any_meets-part}
+use Rattle.gv_table.proofs.AlikeLists.{alike-outside}
 use Rattle.gv_table.proofs.Wants.{nothing-meets, entry-covers, nothing-part, entry-part, wanted-alike}
 use Rattle.gv_table.proofs.Slots.{is_table-Table, is_table-Pages, child-Table, child-Pages, child-other, is_table-Empty, is_table-leaf, leaf-same, leaf-some}
 
@@ -149,14 +149,14 @@ pub leaf-small : (ms : List Mapping) (level first : ℕ) (entry : Entry) → IsL
 leaf-small ms level first entry laid tree =
     let some = pages_of-some level in (read-leaf ms level first first entry laid tree (omega arith) (omega (arith, some))).0
 
--- a leaf of a list whose buffers can be told
-pub leaf-told : (ms : List Mapping) (level first : ℕ) (entry : Entry) → IsLaidOut ms → AreTold ms → IsTreeOf ms level first (leaf entry) → IsTold entry.backing (pages_of level)
-leaf-told ms zero first entry laid told tree =
+-- a leaf of a list whose buffers can be encoded
+pub leaf-encoded : (ms : List Mapping) (level first : ℕ) (entry : Entry) → IsLaidOut ms → AreEncodable ms → IsTreeOf ms level first (leaf entry) → IsEncodable entry.backing (pages_of level)
+leaf-encoded ms zero first entry laid encoded tree =
     let one = pages_of-zero in
     let found = page-leaf (at ms first) entry (page-of ms first (leaf entry) tree) in
-    rw one (covering-told ms 0 (span first 1) entry laid told (sym (at-covering ms first) ∙ found))
-leaf-told ms (suc level) first entry laid told tree =
-    covering-told ms 0 (slot_pages (suc level) first) entry laid told (entry-covers ms (suc level) first entry (leaf-wanted ms level first entry tree)).1
+    rw one (covering-encoded ms 0 (span first 1) entry laid encoded (sym (at-covering ms first) ∙ found))
+leaf-encoded ms (suc level) first entry laid encoded tree =
+    covering-encoded ms 0 (slot_pages (suc level) first) entry laid encoded (entry-covers ms (suc level) first entry (leaf-wanted ms level first entry tree)).1
 
 parts-by : (slot : Slot) (Parts : Type 0) (w : Wanted) → HoldsWanted w slot Parts → is_table slot ≡ true → Parts
 parts-by slot Parts variant.Nothing holds table = let bad : true ≡ false = sym table ∙ ap is_table holds ∙ is_table-Empty in cc
@@ -191,19 +191,19 @@ leaf-parts ms (suc level) first entry laid some tree k below =
 pub divided-parts :
     (entry : Option Entry) (slot : Slot) (part : ℕ → Slot) (ms : List Mapping) (level first p : ℕ) →
     MatchOption entry (HasNoEntry slot) (λ e. slot ≡ leaf e) → is_table slot ≡ false → (entry ≡ None → (k : ℕ) → k < 512 → part k ≡ Empty) →
-    IfSome entry (λ e. HasSmallPages e.backing (512 * p) → IsTold e.backing (512 * p) → (k : ℕ) → k < 512 → part k ≡ leaf (entry_advanced e (k * p))) →
-    IsLaidOut ms → AreTold ms → 0 < level → p ≡ pages_of (level - 1) → IsTreeOf ms level first slot →
+    IfSome entry (λ e. HasSmallPages e.backing (512 * p) → IsEncodable e.backing (512 * p) → (k : ℕ) → k < 512 → part k ≡ leaf (entry_advanced e (k * p))) →
+    IsLaidOut ms → AreEncodable ms → 0 < level → p ≡ pages_of (level - 1) → IsTreeOf ms level first slot →
     (k : ℕ) → k < 512 → IsTreeOf ms (level - 1) (first + k * pages_of (level - 1)) (part k)
-divided-parts None slot part ms level first p (inl none) other empty entries laid told some pages tree k below =
+divided-parts None slot part ms level first p (inl none) other empty entries laid encoded some pages tree k below =
     subst (λ (s : Slot). IsTreeOf ms (level - 1) (first + k * pages_of (level - 1)) s) (sym (empty refl k below))
     (empty-parts ms level first some (subst (λ (s : Slot). IsTreeOf ms level first s) none tree) k below)
-divided-parts None slot part ms level first p (inr table) other empty entries laid told some pages tree k below = cc
-divided-parts (Some entry) slot part ms level first p is other empty entries laid told some pages tree k below =
+divided-parts None slot part ms level first p (inr table) other empty entries laid encoded some pages tree k below = cc
+divided-parts (Some entry) slot part ms level first p is other empty entries laid encoded some pages tree k below =
     let tree' = subst (λ (s : Slot). IsTreeOf ms level first s) is tree in
     let below-of = pages_of-below level some in
     let whole : pages_of level ≡ 512 * p = omega (arith, below-of, pages) in
     let small : HasSmallPages entry.backing (512 * p) = rw whole at (leaf-small ms level first entry laid tree') in
-    let said : IsTold entry.backing (512 * p) = rw whole at (leaf-told ms level first entry laid told tree') in
+    let said : IsEncodable entry.backing (512 * p) = rw whole at (leaf-encoded ms level first entry laid encoded tree') in
     let far : k * p ≡ k * pages_of (level - 1) = ap (λ (n : ℕ). k * n) pages in
     let made = entries small said k below ∙ ap (λ (n : ℕ). leaf (entry_advanced entry n)) far in
     subst (λ (s : Slot). IsTreeOf ms (level - 1) (first + k * pages_of (level - 1)) s) (sym made)
@@ -244,13 +244,13 @@ tree-alike range one other (suc level) first slot alike laid laid' within apart 
     tree)
 
 -- what is right outside the range is right where it is apart from it
-pub outside-apart : (ms : List Mapping) (range : PageRangeState) (level first : ℕ) (slot : Slot) → IsLaidOut ms → IsToldOutside ms range level first slot →
+pub outside-apart : (ms : List Mapping) (range : PageRangeState) (level first : ℕ) (slot : Slot) → IsLaidOut ms → IsEncodableOutside ms range level first slot →
     end_of (slot_pages level first) ≤ PAGES → meets (slot_pages level first) range ≡ false → IsTreeOf ms level first slot
 outside-apart ms range level first slot laid outside within apart =
     tree-alike range outside.earlier ms level first slot outside.alike outside.laid_out laid within apart outside.tree
 
 -- where nothing is wanted of a slot with slots of pages, those apart from the range are empty
-pub empty-apart : (ms : List Mapping) (range : PageRangeState) (first : ℕ) (slot : Slot) → IsLaidOut ms → IsToldOutside ms range 1 first slot →
+pub empty-apart : (ms : List Mapping) (range : PageRangeState) (first : ℕ) (slot : Slot) → IsLaidOut ms → IsEncodableOutside ms range 1 first slot →
     end_of (slot_pages 1 first) ≤ PAGES → wanted ms 1 first ≡ variant.Nothing → (k : ℕ) → k < 512 →
     meets (slot_pages 0 (first + k * pages_of 0)) range ≡ false → child slot k ≡ Empty
 empty-apart ms range first slot laid outside within want k below apart =
@@ -260,7 +260,7 @@ empty-apart ms range first slot laid outside within want k below apart =
     elim (true-or-false (is_table slot)) [
       | inl table ↦ (
           let part : IsTreeOf outside.earlier 0 page (child slot k) = read-parts outside.earlier 1 first slot (omega arith) outside.tree table k below in
-          let fits : IsToldOutside ms range 0 page (child slot k) = record { earlier = outside.earlier; laid_out = outside.laid_out; told = outside.told; alike = outside.alike; tree = part } in
+          let fits : IsEncodableOutside ms range 0 page (child slot k) = record { earlier = outside.earlier; laid_out = outside.laid_out; encoded = outside.encoded; alike = outside.alike; tree = part } in
           let here : IsTreeOf ms 0 page (child slot k) = outside-apart ms range 0 page (child slot k) laid fits (omega (arith, fit, within)) apart in
           page-of ms page (child slot k) here ∙ sym (page-of ms page Empty none)
           )

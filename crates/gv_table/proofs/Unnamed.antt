@@ -1,4 +1,4 @@
--- What a list says whose buffers are told by their indexes alone.
+-- What a list says whose buffers are encoded by their indexes alone.
 use Rattle.std.proofs.Common.{◌≡◌, ℕ, zero, suc, ◌+◌, ◌-◌, ◌*◌, ◌≤◌, Bool, true, false, not, ◌&&◌, ◌||◌, nat_lt, nat_le, List, [], ◌∷◌, take, Option, Some, None, refl, arith, sym, ap, ◌∙◌, max, min, if◌then◌else◌}
 use Rattle.std.specs.List.{cons_option}
 use Rattle.std.specs.Option.{option_map}
@@ -17,7 +17,7 @@ use Rattle.gv_table.specs.declared.wanted.Wanted.{Wanted}
 use Rattle.gv_table.specs.declared.wanted.Wanted.TheVariants as variant
 use Rattle.gv_table.specs.Kinds.{Kind}
 use Rattle.gv_table.specs.Levels.{pages_of, slot_pages, greatest_leaf_level}
-use Rattle.gv_table.specs.Names.{unnamed_backing, unnamed_entry, unnamed_mapping, unnamed}
+use Rattle.gv_table.specs.BufferNames.{unnamed_backing, unnamed_entry, unnamed_mapping, unnamed}
 use Rattle.gv_table.specs.Reads.{any_meets, covering, AreAlikeOutside}
 use Rattle.gv_table.specs.Wanted.{wanted, is_divided, leaf_or_table}
 use Rattle.gv_table.specs.Tree.{child}

@@ -12,9 +12,9 @@ use Rattle.gv_table.specs.Levels.{pages_of, slot_pages}
 use Rattle.gv_table.specs.Reads.{any_meets, covering, IsReadBy}
 use Rattle.gv_types.specs.Mapping.{entry_advanced}
 use Rattle.gv_table.specs.Wanted.{wanted, leaf_or_table, is_divided}
-use Rattle.gv_table.proofs.Spans.{le-true, lies-bounds, meets-from}
-use Rattle.gv_table.proofs.Clips.{SayAlike}
-use Rattle.gv_table.proofs.Covered.{true-or-false, any_meets-part, covering-part, covering-meets, page-covered, met-at}
+use Rattle.gv_table.proofs.RangesMeet.{le-true, lies-bounds, meets-from}
+use Rattle.gv_table.proofs.AlikeLists.{SayAlike}
+use Rattle.gv_table.proofs.CoveringMappings.{true-or-false, any_meets-part, covering-part, covering-meets, page-covered, met-at}
 use Rattle.gv_table.proofs.PagesOf.{pages_of-zero, pages_of-some, pages_of-more, part-within}
 
 pub wanted-nothing : (ms : List Mapping) (level first : ℕ) → any_meets ms (slot_pages level first) ≡ false → wanted ms level first ≡ variant.Nothing

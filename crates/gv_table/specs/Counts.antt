@@ -8,7 +8,7 @@ use Rattle.gv_table.specs.declared.table_counts.TableCounts.{TableCounts}
 use Rattle.gv_table.specs.declared.slot.Slot.{Slot}
 use Rattle.gv_table.specs.declared.slot.Slot.TheVariants.{Empty}
 use Rattle.gv_table.specs.Kinds.{Kind, one_of, unless}
-use Rattle.gv_table.specs.Names.{AreTold}
+use Rattle.gv_table.specs.BufferNames.{AreEncodable}
 use Rattle.gv_table.specs.Levels.{slots_per_table, pages_of, slot_pages}
 use Rattle.gv_table.specs.Sums.{sum_below}
 use Rattle.gv_table.specs.Tree.{is_table, child, IsTreeOf}
@@ -46,12 +46,12 @@ abbrev pub count_at : TableCounts → ℕ → ℕ
 count_at counts target = slice_index_or counts.by_level target 0
 
 -- a counts has the tables of the slot, and at each level no more others than there are pages outside the slot
-pub record IsPartOf (counts : TableCounts) (level : ℕ) (slot : Slot) : Type 0 where
+pub record CountsSlot (counts : TableCounts) (level : ℕ) (slot : Slot) : Type 0 where
   pub counted : (target : ℕ) → tables_at target level slot ≤ count_at counts target
   pub room : (target : ℕ) → count_at counts target + pages_of level ≤ PAGES + tables_at target level slot
 
 -- the same of a row of slots, with room for the table that it is in
-pub record IsRowOf (counts : TableCounts) (level : ℕ) (row : List Slot) : Type 0 where
+pub record CountsRow (counts : TableCounts) (level : ℕ) (row : List Slot) : Type 0 where
   pub counted : (target : ℕ) → row_tables_at target level row ≤ count_at counts target
   pub room : (target : ℕ) → count_at counts target + slots_per_table * pages_of level ≤ PAGES + 1 + row_tables_at target level row
 
@@ -114,6 +114,6 @@ HasSameTables one other = (one ≡ other) ⊎ ((is_table one ≡ false) × (is_t
 -- a slot that was made a table: it holds what it held, part by part, and has its tables
 pub record IsDivided (level : ℕ) (old new : Slot) : Type 0 where
   pub table : is_table new ≡ true
-  pub parts : (ms : List Mapping) (first : ℕ) → IsLaidOut ms → AreTold ms → IsTreeOf ms level first old →
+  pub parts : (ms : List Mapping) (first : ℕ) → IsLaidOut ms → AreEncodable ms → IsTreeOf ms level first old →
       (k : ℕ) → k < slots_per_table → IsTreeOf ms (level - 1) (first + k * pages_of (level - 1)) (child new k)
   pub tables : (k : ℕ) → k < slots_per_table → HasSameTables (child old k) (child new k)

@@ -1,6 +1,6 @@
 -- The two kinds of tables: of single pages, and of other slots.
 use Rattle.std.specs.Prelude.{ℕ, zero, suc, ◌≤◌, Bool, true, false}
-use Rattle.gv_table.specs.declared.tables.Tables.{Tables}
+use Rattle.gv_table.specs.declared.kind_counts.KindCounts.{KindCounts}
 
 pub data Kind : Type 0 where
   pages : Kind
@@ -19,18 +19,18 @@ unless true n = 0
 unless false n = n
 
 -- how many there are of a kind
-abbrev pub of : Kind → Tables → ℕ
+abbrev pub of : Kind → KindCounts → ℕ
 of pages tables = tables.pages
 of slots tables = tables.slots
 
 -- so many of each kind
-abbrev pub each : (Kind → ℕ) → Tables
+abbrev pub each : (Kind → ℕ) → KindCounts
 each number = record { pages = number pages; slots = number slots }
 
 -- none of each kind
-abbrev pub none : Tables
+abbrev pub none : KindCounts
 none = each (λ kind. 0)
 
 -- of each kind as many as needed, or more
-abbrev pub AreEnough : Tables → Tables → Type 0
+abbrev pub AreEnough : KindCounts → KindCounts → Type 0
 AreEnough tables need = (kind : Kind) → of kind need ≤ of kind tables

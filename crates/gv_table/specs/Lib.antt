@@ -1,5 +1,5 @@
 pub mod Levels
-pub mod Names
+pub mod BufferNames
 pub mod Named
 pub mod Kinds
 pub mod Reads

@@ -1,4 +1,4 @@
--- A tree whose buffers are told by their indexes alone, and the ids that stand for these.
+-- A tree whose buffers are encoded by their indexes alone, and the ids that stand for these.
 use Rattle.std.specs.Prelude.{◌≡◌, ℕ, zero, suc, ◌<◌, List, map, slice_index_or}
 use Rattle.gv_types.specs.declared.mapping.Backing.{Backing}
 use Rattle.gv_types.specs.declared.mapping.Backing.TheVariants as backing
@@ -9,7 +9,7 @@ use Rattle.gv_table.specs.declared.slot.Slot.TheVariants.{Empty, Zero, Buffer, T
 use Rattle.gv_table.specs.declared.slot.Slot.TheOpen as layer
 use Rattle.gv_table.specs.declared.slot.Slot.TheFolds.{fold-Slot}
 use Rattle.gv_table.specs.declared.table_counts.TableCounts.{TableCounts}
-use Rattle.gv_table.specs.Names.{PageSlot, IsTold, AreNames}
+use Rattle.gv_table.specs.BufferNames.{PageSlot, IsEncodable, AreNames}
 use Rattle.gv_table.specs.Levels.{top_level, slots_per_table, pages_of}
 use Rattle.gv_table.specs.Tree.{child, leaf, slot_of}
 use Rattle.gv_table.specs.Counts.{tables_at, count_at}
@@ -49,16 +49,16 @@ named_layer names (layer.Table slots) = Table slots
 unfoldable pub named : List BufferId → Slot → Slot
 named names = fold-Slot Slot (named_layer names)
 
--- each leaf's buffer is told by its index alone, and its pages can be told
-unfoldable pub AreLeavesTold : ℕ → Slot → Type 0
-AreLeavesTold zero slot = (e : Entry) → slot ≡ leaf e → IsTold e.backing 1
-AreLeavesTold (suc level) slot =
-    ((e : Entry) → slot ≡ leaf e → IsTold e.backing (pages_of (suc level))) ×
-    ((k : ℕ) → k < slots_per_table → AreLeavesTold level (child slot k))
+-- each leaf's buffer is encoded by its index alone, and its pages can be encoded
+unfoldable pub AreLeavesEncodable : ℕ → Slot → Type 0
+AreLeavesEncodable zero slot = (e : Entry) → slot ≡ leaf e → IsEncodable e.backing 1
+AreLeavesEncodable (suc level) slot =
+    ((e : Entry) → slot ≡ leaf e → IsEncodable e.backing (pages_of (suc level))) ×
+    ((k : ℕ) → k < slots_per_table → AreLeavesEncodable level (child slot k))
 
 -- what a page table keeps: the counts are of its tables, and each index is the name of one buffer
-pub record IsKept (root : Slot) (counts : TableCounts) (names : List BufferId) : Type 0 where
+pub record IsConsistent (root : Slot) (counts : TableCounts) (names : List BufferId) : Type 0 where
   pub counted : (target : ℕ) → count_at counts target ≡ tables_at target top_level root
   pub shaped : IsShaped top_level root
-  pub told : AreLeavesTold top_level root
+  pub encoded : AreLeavesEncodable top_level root
   pub named : AreNames names

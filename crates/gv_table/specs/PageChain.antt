@@ -1,7 +1,7 @@
 -- A chain of empty tables of single pages.
 use Rattle.std.specs.Prelude.{◌≡◌, ℕ, Box, zero, suc, ◌+◌, ◌<◌, Bool, true, false, List, [], slice_index_or, Option, Some, None}
 use Rattle.std.specs.Global.{Global}
-use Rattle.gv_table.specs.Names.{PageSlot}
+use Rattle.gv_table.specs.BufferNames.{PageSlot}
 use Rattle.gv_table.specs.declared.slot.Slot.{Slot, out-Slot}
 use Rattle.gv_table.specs.declared.slot.Slot.TheVariants.{Empty, Pages}
 use Rattle.gv_table.specs.declared.slot.Slot.TheOpen as layer

@@ -1,4 +1,4 @@
--- What a list is to say of a range, told by pieces, and where one of its mappings lies.
+-- What a list is to say of a range, given by pieces, and where one of its mappings lies.
 use Rattle.std.specs.Prelude.{◌≡◌, ◌<◌, ℕ, List, length, slice_index_or}
 use Rattle.gv_types.specs.PageRange.{PageRangeState, end_of}
 use Rattle.gv_types.specs.declared.mapping.Mapping.{Mapping}

@@ -2,7 +2,7 @@
 use Rattle.std.specs.Prelude.{List}
 use Rattle.gv_types.specs.PageRange.{PageRangeState}
 use Rattle.gv_types.specs.declared.mapping.Mapping.{Mapping}
-use Rattle.gv_table.specs.Names.{AreNamed}
+use Rattle.gv_table.specs.BufferNames.{AreNamed}
 use Rattle.gv_table.specs.Patch.{IsPatched}
 use Rattle.gv_table.specs.Table.{PageTable, FitsOutside}
 

@@ -13,7 +13,7 @@ use Rattle.gv_table.specs.declared.wanted.Wanted.TheVariants as variant
 use Rattle.gv_table.specs.declared.slot.Slot.{Slot, out-Slot}
 use Rattle.gv_table.specs.declared.slot.Slot.TheVariants.{Empty, Zero, Buffer}
 use Rattle.gv_table.specs.declared.slot.Slot.TheOpen as layer
-use Rattle.gv_table.specs.Names.{PageSlot, AreTold}
+use Rattle.gv_table.specs.BufferNames.{PageSlot, AreEncodable}
 use Rattle.gv_table.specs.Levels.{slots_per_table, pages_of}
 use Rattle.gv_table.specs.Reads.{AreAlikeOutside}
 use Rattle.gv_table.specs.Wanted.{wanted}
@@ -30,19 +30,19 @@ layer_is_table (layer.Table slots) = true
 unfoldable pub is_table : Slot → Bool
 is_table slot = layer_is_table (out-Slot slot)
 
--- the slot of a page of which nothing is told
+-- the slot of a page of which nothing is encoded
 abbrev pub no_page : PageSlot
 no_page = 0
 
 -- The slot of a single page, as its number tells it: nothing by 0, else a page in units and a head in 2^40s, which is 1 and 2 for zeros, and
 -- from 3 on twice a buffer's index; one more where it is read-only.
-abbrev pub told_slot : ℕ → ℕ → Slot
-told_slot head page =
+abbrev pub decoded_slot : ℕ → ℕ → Slot
+decoded_slot head page =
     if nat_lt head 3 then Zero (record { read_only = head == 2 })
     else Buffer (record { read_only = (head - 3) % 2 == 1 }) (buffer_id ((head - 3) / 2) 0) page
 
 unfoldable pub slot_of : PageSlot → Slot
-slot_of p = if p == 0 then Empty else told_slot (p / 2 ^ 40) (p % 2 ^ 40)
+slot_of p = if p == 0 then Empty else decoded_slot (p / 2 ^ 40) (p % 2 ^ 40)
 
 -- a slot of one layer; a slot that is no table has empty ones
 abbrev pub layer_child : layer.Slot-F Slot → ℕ → Slot
@@ -94,10 +94,10 @@ pub record IsTreeOutside (ms : List Mapping) (range : PageRangeState) (level fir
   pub alike : AreAlikeOutside range earlier ms
   pub tree : IsTreeOf earlier level first slot
 
--- and that list's buffers can be told
-pub record IsToldOutside (ms : List Mapping) (range : PageRangeState) (level first : ℕ) (slot : Slot) : Type 0 where
+-- and that list's buffers can be encoded
+pub record IsEncodableOutside (ms : List Mapping) (range : PageRangeState) (level first : ℕ) (slot : Slot) : Type 0 where
   pub earlier : List Mapping
   pub laid_out : IsLaidOut earlier
-  pub told : AreTold earlier
+  pub encoded : AreEncodable earlier
   pub alike : AreAlikeOutside range earlier ms
   pub tree : IsTreeOf earlier level first slot

@@ -1,11 +1,11 @@
-//! A buffer told by its index alone.
+//! A buffer encoded by its index alone.
 ghost use Rattle.std.specs.Prelude.{◌≡◌};
-ghost use Rattle.gv_table.specs.Names.{unnamed_id};
+ghost use Rattle.gv_table.specs.BufferNames.{unnamed_id};
 
 use gv_types::BufferId;
 use std::marker::Model;
 
-/// A buffer told by its index alone, in four bytes. Contracts see the id of that index whose generation is 0.
+/// A buffer encoded by its index alone, in four bytes. Contracts see the id of that index whose generation is 0.
 #[derive(Clone, Copy)]
 pub struct BufferIndex {
     index: u32,

@@ -1,4 +1,4 @@
-//! Tables of one kind that are in no tree.
+//! Empty tables of slots that are in no tree (of single pages: page_chain.rt).
 ghost use Rattle.std.specs.Prelude.{◌≡◌, ℕ, ◌+◌, ◌<◌, ◌≤◌, ◌↔◌, IsTrue, OnOk, OnErr};
 ghost use Rattle.gv_table.specs.Chain.{AreEmpty, IsChainOf, link_to};
 

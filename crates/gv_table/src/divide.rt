@@ -6,11 +6,11 @@ ghost use Rattle.gv_table.specs.declared.slot.Slot.TheVariants.{Empty};
 ghost use Rattle.gv_table.specs.Chain.{AreEmpty};
 ghost use Rattle.gv_table.specs.PageChain.{ArePagesEmpty};
 ghost use Rattle.gv_table.specs.Kinds.{Kind, of, one_of, unless};
-ghost use Rattle.gv_table.specs.Names.{IsTold};
+ghost use Rattle.gv_table.specs.BufferNames.{IsEncodable};
 ghost use Rattle.gv_table.specs.Levels.{top_level, slots_per_table, pages_of};
 ghost use Rattle.gv_table.specs.Shape.{IsShaped};
 ghost use Rattle.gv_table.specs.Tree.{is_table, child, leaf, slot_of, no_page};
-ghost use Rattle.gv_table.specs.Counts.{one_if_new, IsDivided, IsPartOf, count_at};
+ghost use Rattle.gv_table.specs.Counts.{one_if_new, IsDivided, CountsSlot, count_at};
 
 use crate::fill::fill;
 use crate::levels::{SLOTS, pages_of};
@@ -27,7 +27,7 @@ fn spread(slots: &mut [Slot; SLOTS], entry: &Entry, pages: u64)
     ensures leaves { (k : ℕ) → k < slots_per_table
         → is_table (slice_index_or slots.new k Empty) ≡ false }
     ensures entries { HasSmallPages entry.now.backing (slots_per_table * pages)
-        → IsTold entry.now.backing (slots_per_table * pages) → (k : ℕ) → k < slots_per_table
+        → IsEncodable entry.now.backing (slots_per_table * pages) → (k : ℕ) → k < slots_per_table
         → slice_index_or slots.new k Empty ≡ leaf (entry_advanced entry.now (k * pages)) }
 {
     for index in 0..SLOTS {
@@ -44,7 +44,7 @@ fn filled(entry: Option<Entry>, pages: u64, table: Box<[Slot; SLOTS]>) -> Box<[S
     ensures leaves { (k : ℕ) → k < slots_per_table
         → is_table (slice_index_or result.value k Empty) ≡ false }
     ensures entries { IfSome entry (λ e. HasSmallPages e.backing (slots_per_table * pages)
-        → IsTold e.backing (slots_per_table * pages) → (k : ℕ) → k < slots_per_table
+        → IsEncodable e.backing (slots_per_table * pages) → (k : ℕ) → k < slots_per_table
         → slice_index_or result.value k Empty ≡ leaf (entry_advanced e (k * pages))) }
 {
     let mut slots = table;
@@ -58,7 +58,7 @@ fn filled(entry: Option<Entry>, pages: u64, table: Box<[Slot; SLOTS]>) -> Box<[S
 fn filled_pages(entry: Option<Entry>, table: Box<Pages>) -> Box<Pages>
     requires empty { ArePagesEmpty table.value.0 }
     ensures empty { entry ≡ None → ArePagesEmpty result.value.0 }
-    ensures entries { IfSome entry (λ e. HasSmallPages e.backing slots_per_table → IsTold e.backing slots_per_table → (k : ℕ) → k < slots_per_table
+    ensures entries { IfSome entry (λ e. HasSmallPages e.backing slots_per_table → IsEncodable e.backing slots_per_table → (k : ℕ) → k < slots_per_table
         → slot_of (slice_index_or result.value.0 k no_page) ≡ leaf (entry_advanced e k)) }
 {
     let mut table = table;
@@ -68,7 +68,7 @@ fn filled_pages(entry: Option<Entry>, table: Box<Pages>) -> Box<Pages>
     table
 }
 
-/// A spare table in place of what a slot at a level holds, with the parts of that.
+/// A spare table instead of what a slot at a level holds, with the parts of that.
 fn divided(entry: Option<Entry>, level: usize, spares: &mut Spares) -> Slot
     requires some { 0 < level }
     requires known { level ≤ top_level }
@@ -78,7 +78,7 @@ fn divided(entry: Option<Entry>, level: usize, spares: &mut Spares) -> Slot
     ensures leaves { (k : ℕ) → k < slots_per_table → is_table (child result k) ≡ false }
     ensures empty { entry ≡ None → (k : ℕ) → k < slots_per_table → child result k ≡ Empty }
     ensures entries { IfSome entry (λ e. HasSmallPages e.backing (slots_per_table * pages_of (level - 1))
-        → IsTold e.backing (slots_per_table * pages_of (level - 1)) → (k : ℕ) → k < slots_per_table → child result k ≡ leaf (entry_advanced e (k * pages_of (level - 1)))) }
+        → IsEncodable e.backing (slots_per_table * pages_of (level - 1)) → (k : ℕ) → k < slots_per_table → child result k ≡ leaf (entry_advanced e (k * pages_of (level - 1)))) }
     ensures taken { (kind : Kind) → of kind spares.new + one_of kind (level - 1) ≡ of kind spares.old }
 {
     if level == 1 {
@@ -97,7 +97,7 @@ fn divide(slot: &mut Slot, level: usize, spares: &mut Spares, counts: &mut Table
     requires known { level ≤ top_level }
     requires other { is_table slot.old ≡ false }
     requires enough { (kind : Kind) → one_of kind (level - 1) ≤ of kind spares.old }
-    requires part { IsPartOf counts.old level slot.old }
+    requires part { CountsSlot counts.old level slot.old }
     ensures divided { IsDivided level slot.old slot.new }
     ensures shaped { IsShaped level slot.new }
     ensures taken { (kind : Kind) → of kind spares.new + one_of kind (level - 1) ≡ of kind spares.old }
@@ -115,7 +115,7 @@ pub fn make_table(slot: &mut Slot, level: usize, spares: &mut Spares, counts: &m
     requires some { 0 < level }
     requires known { level ≤ top_level }
     requires enough { (kind : Kind) → unless (is_table slot.old) (one_of kind (level - 1)) ≤ of kind spares.old }
-    requires part { IsPartOf counts.old level slot.old }
+    requires part { CountsSlot counts.old level slot.old }
     requires shaped { IsShaped level slot.old }
     ensures divided { IsDivided level slot.old slot.new }
     ensures shaped { IsShaped level slot.new }

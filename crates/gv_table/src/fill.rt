@@ -1,8 +1,8 @@
-//! A run of slots of single pages.
+//! A run of slots of single pages, emptied or made leaves.
 ghost use Rattle.std.specs.Prelude.{◌≡◌, ◌+◌, ◌-◌, ◌<◌, ◌≤◌, ℕ, slice_index_or};
 ghost use Rattle.gv_types.specs.Mapping.{entry_advanced, HasSmallPages};
 ghost use Rattle.gv_table.specs.Levels.{slots_per_table};
-ghost use Rattle.gv_table.specs.Names.{IsTold};
+ghost use Rattle.gv_table.specs.BufferNames.{IsEncodable};
 ghost use Rattle.gv_table.specs.Tree.{leaf, slot_of, no_page};
 
 use crate::levels::SLOTS;
@@ -28,7 +28,7 @@ pub fn empty(slots: &mut [PageSlot; SLOTS], low: usize, high: usize)
 pub fn fill(slots: &mut [PageSlot; SLOTS], low: usize, high: usize, entry: &Entry)
     requires ordered { low ≤ high }
     requires within { high ≤ slots_per_table }
-    ensures filled { HasSmallPages entry.now.backing (high - low) → IsTold entry.now.backing (high - low) → (k : ℕ) → low ≤ k → k < high
+    ensures filled { HasSmallPages entry.now.backing (high - low) → IsEncodable entry.now.backing (high - low) → (k : ℕ) → low ≤ k → k < high
         → slot_of (slice_index_or slots.new k no_page) ≡ leaf (entry_advanced entry.now (k - low)) }
     ensures before { (k : ℕ) → k < low
         → slice_index_or slots.new k no_page ≡ slice_index_or slots.old k no_page }

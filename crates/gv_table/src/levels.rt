@@ -1,4 +1,4 @@
-//! The shape of the tables.
+//! The levels of the tree: how many pages a slot covers, and which slots a range meets.
 ghost use Rattle.std.specs.Prelude.{◌≡◌, ◌+◌, ◌*◌, ◌-◌, ◌/◌, ◌<◌, ◌≤◌, ℕ, IsTrue, IfSome};
 ghost use Rattle.gv_types.specs.Page.{PAGES};
 ghost use Rattle.gv_types.specs.PageRange.{span, end_of, meets};

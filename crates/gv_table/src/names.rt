@@ -1,7 +1,7 @@
 //! The ids that stand for the indexes of buffers.
 ghost use Rattle.std.specs.Prelude.{◌≡◌, ◌+◌, ◌<◌, ◌≤◌, ℕ, Some, length, max, slice_get, OnOk, OnErr};
 ghost use Rattle.gv_types.specs.declared.mapping.BufferId.{BufferId};
-ghost use Rattle.gv_table.specs.Names.{most_names, AreNames};
+ghost use Rattle.gv_table.specs.BufferNames.{most_names, AreNames};
 ghost use Rattle.gv_table.specs.Named.{named_id, named_entry};
 
 use gv_types::{Backing, BufferId, Entry, OutOfMemory};
@@ -16,7 +16,7 @@ fn named_id(names: &[BufferId], id: BufferId) -> BufferId
     }
 }
 
-/// An entry with its buffer's id in place of the index alone.
+/// An entry with its buffer's id instead of the index alone.
 #[inline(always)]
 pub fn named(names: &[BufferId], entry: &Entry) -> Entry
     ensures { result ≡ named_entry names.now entry.now }
@@ -35,7 +35,7 @@ pub fn named(names: &[BufferId], entry: &Entry) -> Entry
 }
 
 /// Gives each index up to this one a name, which stands for no buffer yet where it had none.
-pub fn reach(names: &mut Vec<BufferId>, index: u32) -> Result<(), OutOfMemory>
+pub fn extend_names(names: &mut Vec<BufferId>, index: u32) -> Result<(), OutOfMemory>
     requires { index < most_names }
     ensures names { AreNames names.old.items → AreNames names.new.items }
     ensures ok { OnOk result (index < length names.new.items) }

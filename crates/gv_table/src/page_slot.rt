@@ -1,8 +1,8 @@
 //! A slot of a single page.
 ghost use Rattle.std.specs.Prelude.{◌≡◌, ◌<◌, ◌^◌, MatchOption};
 ghost use Rattle.gv_table.specs.declared.slot.Slot.TheVariants.{Empty};
-ghost use Rattle.gv_table.specs.Names.{IsTold};
-ghost use Rattle.gv_table.specs.Tree.{leaf, slot_of, told_slot};
+ghost use Rattle.gv_table.specs.BufferNames.{IsEncodable};
+ghost use Rattle.gv_table.specs.Tree.{leaf, slot_of, decoded_slot};
 
 use crate::levels::SLOTS;
 use crate::slot::Slot;
@@ -21,12 +21,12 @@ pub type Pages = ([PageSlot; SLOTS], Slot);
 /// So many bits tell a page of a buffer.
 const PAGE_BITS: u32 = 40;
 
-const PAGES_TOLD: u64 = 1 << PAGE_BITS;
+const ENCODABLE_PAGES: u64 = 1 << PAGE_BITS;
 
-/// The slot of a page with an entry, whose buffer is told by its index alone.
+/// The slot of a page with an entry, whose buffer is encoded by its index alone.
 #[inline(always)]
 pub fn page_leaf(entry: Entry) -> PageSlot
-    ensures { IsTold entry.backing 1 → slot_of result ≡ leaf entry }
+    ensures { IsEncodable entry.backing 1 → slot_of result ≡ leaf entry }
 {
     let read_only = u64::from(entry.flags.read_only);
     let (head, page) = match entry.backing {
@@ -43,13 +43,13 @@ pub fn page_entry(slot: PageSlot) -> Option<Entry>
     if slot == NO_PAGE {
         return None;
     }
-    Some(entry_of(slot / PAGES_TOLD, slot % PAGES_TOLD))
+    Some(entry_of(slot / ENCODABLE_PAGES, slot % ENCODABLE_PAGES))
 }
 
 /// The entry of a head and a page.
 fn entry_of(head: u64, page: u64) -> Entry
     requires { head < 2 ^ 24 }
-    ensures { leaf result ≡ told_slot head page }
+    ensures { leaf result ≡ decoded_slot head page }
 {
     if head < 3 {
         return Entry {

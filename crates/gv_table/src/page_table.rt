@@ -7,19 +7,19 @@ ghost use Rattle.gv_types.specs.PageRange.{end_of};
 ghost use Rattle.gv_ranges.specs.List.{at, IsLaidOut, AreEnded};
 ghost use Rattle.gv_ranges.specs.Edit.{clipped};
 ghost use Rattle.gv_table.specs.Kinds.{Kind, of, none, AreEnough};
-ghost use Rattle.gv_table.specs.Names.{most_names, AreNamed};
+ghost use Rattle.gv_table.specs.BufferNames.{most_names, AreNamed};
 
+use crate::fast_path::try_paint_slot;
 use crate::levels::TOP_LEVEL;
-use crate::names::reach;
-use crate::outline::Outline;
+use crate::names::extend_names;
+use crate::needed_tables::needed_in_tree;
 use crate::paint::paint_tree;
-use crate::place::{Excerpt, Place};
-use crate::release::give_up;
-use crate::short::paint_in_slot;
+use crate::release::free_tables;
 use crate::slot::{Slot, give_back, give_pages_back};
-use crate::spare::needed_in_tree;
+use crate::slot_position::{Excerpt, SlotPosition};
 use crate::spares::Spares;
 use crate::table_counts::TableCounts;
+use crate::unnamed_list::UnnamedList;
 use crate::walk::walk_tree;
 use gv_ranges::{RangeList, Reader};
 use gv_types::{BufferId, Entry, Fault, Packed, PageRange, SPACE_PAGES};
@@ -35,7 +35,7 @@ pub struct PageTable {
 }
 
 impl Model for PageTable {
-    ghost use Rattle.gv_table.specs.Named.{named, IsKept};
+    ghost use Rattle.gv_table.specs.Named.{named, IsConsistent};
     ghost use Rattle.gv_table.specs.Table.{PageTable};
 
     ghost Value = { PageTable };
@@ -47,7 +47,7 @@ impl Model for PageTable {
 
     ghost view = { λ t. record { root = named t.names.items t.root; names = t.names.items } };
 
-    ghost invariant = { λ t. IsKept t.root t.counts t.names.items };
+    ghost invariant = { λ t. IsConsistent t.root t.counts t.names.items };
 }
 
 impl Drop for PageTable {
@@ -68,8 +68,8 @@ impl Drop for PageTable {
 }
 
 impl PageTable {
-    ghost use Rattle.gv_table.specs.Table.{IsTree, IsHeldAt, FitsOutside, gained_by, lost_by, needed_for};
-    ghost use Rattle.gv_table.specs.Table.{tables_by_level, tables_of, tables_standing};
+    ghost use Rattle.gv_table.specs.Table.{IsTree, IsEntryAt, FitsOutside, gained_by, lost_by, needed_for};
+    ghost use Rattle.gv_table.specs.Table.{tables_by_level, tables_of, tables_by_kind};
     ghost use Rattle.gv_table.specs.Patch.{IsPatched};
     ghost use Rattle.gv_table.specs.PatchOf.{IsPatchOf};
 
@@ -89,7 +89,7 @@ impl PageTable {
     fn take_down(&mut self)
         ensures { IsTree [] self.new }
     {
-        give_up(&mut self.root, TOP_LEVEL);
+        free_tables(&mut self.root, TOP_LEVEL);
         self.counts = TableCounts::new();
     }
 
@@ -102,11 +102,11 @@ impl PageTable {
         ensures length { OnOk result (length self.new.names ≡ max (length self.old.names) (index + 1)) }
         ensures same { (k : ℕ) (id : BufferId) → slice_get self.old.names k ≡ Some id → slice_get self.new.names k ≡ Some id }
         ensures tree { (ms : List Mapping) → IsTree ms self.old → AreNamed self.new.names ms → IsTree ms self.new }
-        ensures standing { tables_standing self.new ≡ tables_standing self.old }
+        ensures present { tables_by_kind self.new ≡ tables_by_kind self.old }
         ensures err { IfErr result (λ fault. fault ≡ OutOfMemory) }
         ensures unchanged { OnErr result (self.new ≡ self.old) }
     {
-        Ok(reach(&mut self.names, index)?)
+        Ok(extend_names(&mut self.names, index)?)
     }
 
     /// Tells which buffer an index stands for from now on, where there is room for its name. It takes no memory.
@@ -117,7 +117,7 @@ impl PageTable {
         ensures others { (other : BufferId) → other.index ≢ id.index → slice_get self.old.names other.index ≡ Some other
             → slice_get self.new.names other.index ≡ Some other }
         ensures tree { (ms : List Mapping) → IsTree ms self.old → AreNamed self.new.names ms → IsTree ms self.new }
-        ensures standing { tables_standing self.new ≡ tables_standing self.old }
+        ensures present { tables_by_kind self.new ≡ tables_by_kind self.old }
     {
         self.names[id.index as usize] = id;
     }
@@ -132,7 +132,7 @@ impl PageTable {
     /// What a page holds: at most five steps from table to table. None past the end of the address
     /// space.
     pub fn walk(&self, page: u64) -> Option<Entry>
-        ensures { IsHeldAt self.now page result }
+        ensures { IsEntryAt self.now page result }
     {
         if page >= SPACE_PAGES {
             return None;
@@ -142,7 +142,7 @@ impl PageTable {
 
     /// How many tables stand at the levels 4, 3, 2, 1 and 0. The numbers are kept: nothing is walked.
     pub fn tables(&self) -> [u64; 5]
-        ensures standing { result ≡ tables_by_level self.now }
+        ensures present { result ≡ tables_by_level self.now }
         ensures wanted { (ms : List Mapping) → IsTree ms self.now → result ≡ tables_of ms }
     {
         self.counts.descending()
@@ -160,7 +160,7 @@ impl PageTable {
         ensures err { IfErr result (λ fault. fault ≡ OutOfMemory) }
         ensures some_needed { OnErr result (needed_for pieces.now range self.now ≢ none) }
     {
-        let pieces = Outline::of(Reader::of_slice(pieces));
+        let pieces = UnnamedList::of(Reader::of_slice(pieces));
         Ok(Spares::make(alloc, needed_in_tree(&self.root, &pieces, range))?)
     }
 
@@ -168,34 +168,34 @@ impl PageTable {
     /// one mapping is to hold whole or none to meet. That table has to stand and to stay: whether it did, and if not, nothing changed.
     /// Of the list, which need not be the one that the tree is to be of yet, the pieces tell what it says of the range, and `some` where
     /// one of its mappings lies. No table is gained or lost, and it takes no memory.
-    pub fn paint_within(&mut self, range: PageRange, pieces: &[Packed], some: PageRange) -> bool
+    pub fn try_paint_within(&mut self, range: PageRange, pieces: &[Packed], some: PageRange) -> bool
         requires laid_out { IsLaidOut pieces.now }
         requires named { AreNamed self.old.names pieces.now }
         requires list { IsPatchOf self.old range pieces.now some }
         ensures not { result ≡ false → self.new ≡ self.old }
         ensures names { self.new.names ≡ self.old.names }
-        ensures standing { tables_standing self.new ≡ tables_standing self.old }
+        ensures present { tables_by_kind self.new ≡ tables_by_kind self.old }
         ensures tree { IsTrue result → (ms : List Mapping) → IsPatched ms pieces.now range some → AreNamed self.old.names ms
             → FitsOutside ms range self.old → IsTree ms self.new }
         ensures none { IsTrue result → (ms : List Mapping) → IsLaidOut ms → IsTree ms self.old → gained_by ms self.new ≡ none }
     {
         // Tells that the range lies in the space.
         let _first = range.first();
-        let pieces = Outline::of(Reader::of_slice(pieces));
+        let pieces = UnnamedList::of(Reader::of_slice(pieces));
         let excerpt = Excerpt {
             mappings: &pieces,
             range,
             position: 0,
         };
-        let place = Place {
+        let slot_at = SlotPosition {
             level: TOP_LEVEL,
             first: 0,
         };
-        paint_in_slot(&mut self.root, place, &excerpt, some)
+        try_paint_slot(&mut self.root, slot_at, &excerpt, some)
     }
 
     /// Makes the tree that of the list, where it fits the list outside the range. It takes from the
-    /// spares just the tables that the tree gains, puts just those that it loses to the ones that left it, and takes no memory. So
+    /// spares just the tables that the tree gains, puts just those that it loses to the ones pruned from it, and takes no memory. So
     /// many are needed to paint the list back that the tree was of. The mappings before the position end before the range: it looks
     /// at those from there on that meet the range, and at one neighbour.
     pub fn paint(
@@ -204,7 +204,7 @@ impl PageTable {
         range: PageRange,
         position: usize,
         spares: &mut Spares,
-        left: &mut Spares,
+        pruned: &mut Spares,
     )
         requires ended { AreEnded list.now.mappings range.first position }
         requires fitted { FitsOutside list.now.mappings range self.old }
@@ -214,17 +214,17 @@ impl PageTable {
         ensures names { self.new.names ≡ self.old.names }
         ensures taken { (kind : Kind) → of kind spares.new + of kind (gained_by list.now.mappings self.old)
             ≡ of kind spares.old }
-        ensures put { (kind : Kind) → of kind left.new
-            ≡ of kind left.old + of kind (lost_by list.now.mappings self.old) }
+        ensures put { (kind : Kind) → of kind pruned.new
+            ≡ of kind pruned.old + of kind (lost_by list.now.mappings self.old) }
         ensures back { (ms : List Mapping) → IsLaidOut ms → IsTree ms self.old
             → gained_by ms self.new ≡ lost_by list.now.mappings self.old }
     {
-        let mappings = Outline::of(Reader::of_list(list, position));
+        let mappings = UnnamedList::of(Reader::of_list(list, position));
         let excerpt = Excerpt {
             mappings: &mappings,
             range,
             position,
         };
-        paint_tree(&mut self.root, &excerpt, spares, left, &mut self.counts);
+        paint_tree(&mut self.root, &excerpt, spares, pruned, &mut self.counts);
     }
 }

@@ -1,18 +1,18 @@
-//! The slots of single pages made those of a list's tree, inside a range.
+//! Paints a table of single pages: its slots in the range become those of the list's tree.
 ghost use Rattle.std.specs.Prelude.{◌≡◌, ◌+◌, ◌*◌, ◌<◌, ◌≤◌, ℕ, false, IsTrue, slice_index_or};
 ghost use Rattle.gv_types.specs.Page.{PAGES};
 ghost use Rattle.gv_types.specs.PageRange.{span, meets, end_of};
 ghost use Rattle.gv_ranges.specs.List.{IsLaidOut, IsIndexOfPage, AreEnded};
-ghost use Rattle.gv_table.specs.Names.{AreTold};
+ghost use Rattle.gv_table.specs.BufferNames.{AreEncodable};
 ghost use Rattle.gv_table.specs.Levels.{slots_per_table, pages_of, slot_pages, first_within};
-ghost use Rattle.gv_table.specs.Tree.{IsTreeOf, IsToldOutside, slot_of, no_page};
+ghost use Rattle.gv_table.specs.Tree.{IsTreeOf, IsEncodableOutside, slot_of, no_page};
 
+use crate::deciding_mapping::advance;
 use crate::fill::{empty, fill};
 use crate::levels::{SLOTS, slots_met};
-use crate::outline::Outline;
 use crate::page_slot::PageSlot;
-use crate::place::Excerpt;
-use crate::position::advance;
+use crate::slot_position::Excerpt;
+use crate::unnamed_list::UnnamedList;
 use std::ops::Range;
 
 /// Makes the slots of a run those of the list's tree, as far as one mapping or one gap goes, and at most up to the run's
@@ -21,14 +21,14 @@ fn paint_run(
     slots: &mut [PageSlot; SLOTS],
     first: u64,
     run: Range<usize>,
-    mappings: &Outline<'_>,
+    mappings: &UnnamedList<'_>,
     position: usize,
 ) -> usize
     requires in_space { first + slots_per_table ≤ PAGES }
     requires some { run.start < run.end }
     requires within { run.end ≤ slots_per_table }
     requires laid_out { IsLaidOut mappings.now }
-    requires told { AreTold mappings.now }
+    requires encoded { AreEncodable mappings.now }
     requires position { IsIndexOfPage mappings.now (first + run.start) position }
     ensures further { run.start < result }
     ensures within { result ≤ run.end }
@@ -64,7 +64,7 @@ fn paint_run(
 pub fn paint_pages(slots: &mut [PageSlot; SLOTS], first: u64, excerpt: &Excerpt<'_, '_>)
     requires in_space { first + slots_per_table * pages_of 0 ≤ PAGES }
     requires laid_out { IsLaidOut excerpt.now.mappings.now }
-    requires told { AreTold excerpt.now.mappings.now }
+    requires encoded { AreEncodable excerpt.now.mappings.now }
     requires position { AreEnded excerpt.now.mappings.now (first_within excerpt.now.range first) excerpt.now.position }
     requires met { IsTrue (meets (span first (slots_per_table * pages_of 0)) excerpt.now.range) }
     ensures inside { (k : ℕ) → k < slots_per_table → IsTrue (meets (slot_pages 0 (first + k * pages_of 0)) excerpt.now.range)
@@ -87,19 +87,19 @@ pub fn paint_pages(slots: &mut [PageSlot; SLOTS], first: u64, excerpt: &Excerpt<
 
 /// Makes the slots of a table of pages those of the list's tree, given that they fit outside the range. The mappings are looked up anew
 /// where they are not at hand.
-pub fn paint_near(slots: &mut [PageSlot; SLOTS], first: u64, excerpt: &Excerpt<'_, '_>)
+pub fn paint_pages_of_list(slots: &mut [PageSlot; SLOTS], first: u64, excerpt: &Excerpt<'_, '_>)
     requires in_space { first + slots_per_table * pages_of 0 ≤ PAGES }
     requires laid_out { IsLaidOut excerpt.now.mappings.now }
-    requires told { AreTold excerpt.now.mappings.now }
+    requires encoded { AreEncodable excerpt.now.mappings.now }
     requires position { AreEnded excerpt.now.mappings.now (first_within excerpt.now.range first) excerpt.now.position }
     requires met { IsTrue (meets (span first (slots_per_table * pages_of 0)) excerpt.now.range) }
     requires outside { (k : ℕ) → k < slots_per_table
-        → IsToldOutside excerpt.now.mappings.now excerpt.now.range 0 (first + k * pages_of 0)
+        → IsEncodableOutside excerpt.now.mappings.now excerpt.now.range 0 (first + k * pages_of 0)
         (slot_of (slice_index_or slots.old k no_page)) }
     ensures { (k : ℕ) → k < slots_per_table → IsTreeOf excerpt.now.mappings.now 0
         (first + k * pages_of 0) (slot_of (slice_index_or slots.new k no_page)) }
 {
-    let mappings = excerpt.mappings.near(excerpt.position);
+    let mappings = excerpt.mappings.with_block_at(excerpt.position);
     let excerpt = Excerpt {
         mappings: &mappings,
         range: excerpt.range,

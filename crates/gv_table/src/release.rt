@@ -1,4 +1,4 @@
-//! A slot given up.
+//! A slot emptied: its tables go to the pruned ones, or back to the system.
 ghost use Rattle.std.specs.Prelude.{◌≡◌, ◌⊎◌, ◌≤◌, ◌<◌, ◌+◌, ◌*◌, ℕ, IsTrue, false};
 ghost use Rattle.gv_types.specs.Page.{PAGES};
 ghost use Rattle.gv_types.specs.PageRange.{meets, end_of};
@@ -11,27 +11,27 @@ ghost use Rattle.gv_table.specs.Counts.{tables_in, tables_at, count_at};
 
 use crate::fill::empty;
 use crate::levels::{SLOTS, slots_met};
-use crate::place::Place;
 use crate::slot::{Slot, give_back, give_pages_back, overwrite};
+use crate::slot_position::SlotPosition;
 use crate::spares::Spares;
 use crate::table_counts::TableCounts;
 use gv_types::PageRange;
 use std::mem;
 
-/// Empties a slot, takes its tables off the counts, and puts them to those that left the tree.
+/// Empties a slot, takes its tables off the counts, and puts them to those pruned from the tree.
 #[inline(always)]
-pub fn clear(slot: &mut Slot, level: usize, left: &mut Spares, counts: &mut TableCounts)
+pub fn clear(slot: &mut Slot, level: usize, pruned: &mut Spares, counts: &mut TableCounts)
     requires some { 0 < level }
     requires known { level ≤ top_level }
     requires shaped { IsShaped level slot.old }
     requires counted { (target : ℕ) → tables_at target level slot.old ≤ count_at counts.old target }
     ensures emptied { slot.new ≡ Empty }
-    ensures put { (kind : Kind) → of kind left.new ≡ of kind left.old + tables_in kind level slot.old }
+    ensures put { (kind : Kind) → of kind pruned.new ≡ of kind pruned.old + tables_in kind level slot.old }
     ensures counted { (target : ℕ) → count_at counts.new target + tables_at target level slot.old
         ≡ count_at counts.old target }
 {
     if slot.is_table() {
-        release(slot, level, left, counts);
+        release(slot, level, pruned, counts);
         return;
     }
     overwrite(slot, Slot::Empty);
@@ -39,26 +39,26 @@ pub fn clear(slot: &mut Slot, level: usize, left: &mut Spares, counts: &mut Tabl
 
 /// The same, with the slots of its table.
 #[inline(never)]
-fn release(slot: &mut Slot, level: usize, left: &mut Spares, counts: &mut TableCounts)
+fn release(slot: &mut Slot, level: usize, pruned: &mut Spares, counts: &mut TableCounts)
     requires some { 0 < level }
     requires known { level ≤ top_level }
     requires shaped { IsShaped level slot.old }
     requires counted { (target : ℕ) → tables_at target level slot.old ≤ count_at counts.old target }
     ensures emptied { slot.new ≡ Empty }
-    ensures put { (kind : Kind) → of kind left.new ≡ of kind left.old + tables_in kind level slot.old }
+    ensures put { (kind : Kind) → of kind pruned.new ≡ of kind pruned.old + tables_in kind level slot.old }
     ensures counted { (target : ℕ) → count_at counts.new target + tables_at target level slot.old
         ≡ count_at counts.old target }
 {
     if level == 1 {
-        release_part(slot, 0, SLOTS, left, counts);
+        release_part(slot, 0, SLOTS, pruned, counts);
         return;
     }
     match mem::replace(slot, Slot::Empty) {
         Slot::Table(mut slots) => {
             for index in 0..SLOTS {
-                release(&mut slots[index], level - 1, left, counts);
+                release(&mut slots[index], level - 1, pruned, counts);
             }
-            left.put_slots(slots);
+            pruned.put_slots(slots);
             counts.lower(level - 1);
         }
         Slot::Pages(_) => unreachable!(),
@@ -74,7 +74,7 @@ fn release_part(
     slot: &mut Slot,
     low: usize,
     high: usize,
-    left: &mut Spares,
+    pruned: &mut Spares,
     counts: &mut TableCounts,
 )
     requires ordered { low ≤ high }
@@ -83,14 +83,14 @@ fn release_part(
     requires rest { (k : ℕ) → k < slots_per_table → (k < low) ⊎ (high ≤ k) → child slot.old k ≡ Empty }
     requires counted { (target : ℕ) → tables_at target 1 slot.old ≤ count_at counts.old target }
     ensures emptied { slot.new ≡ Empty }
-    ensures put { (kind : Kind) → of kind left.new ≡ of kind left.old + tables_in kind 1 slot.old }
+    ensures put { (kind : Kind) → of kind pruned.new ≡ of kind pruned.old + tables_in kind 1 slot.old }
     ensures counted { (target : ℕ) → count_at counts.new target + tables_at target 1 slot.old
         ≡ count_at counts.old target }
 {
     match mem::replace(slot, Slot::Empty) {
         Slot::Pages(mut table) => {
             empty(&mut table.0, low, high);
-            left.put_pages(table);
+            pruned.put_pages(table);
             counts.lower(0);
         }
         Slot::Table(_) => unreachable!(),
@@ -100,7 +100,7 @@ fn release_part(
 
 /// Empties a slot, and gives its tables back to the system, one after another. What they hold is not emptied before.
 #[inline(never)]
-pub fn give_up(slot: &mut Slot, level: usize)
+pub fn free_tables(slot: &mut Slot, level: usize)
     ensures { slot.new ≡ Empty }
 {
     match mem::replace(slot, Slot::Empty) {
@@ -108,7 +108,7 @@ pub fn give_up(slot: &mut Slot, level: usize)
         Slot::Table(mut slots) => {
             if level > 0 {
                 for index in 0..SLOTS {
-                    give_up(&mut slots[index], level - 1);
+                    free_tables(&mut slots[index], level - 1);
                 }
             }
             give_back(slots);
@@ -122,28 +122,28 @@ pub fn give_up(slot: &mut Slot, level: usize)
 #[inline(always)]
 pub fn clear_unwanted(
     slot: &mut Slot,
-    place: Place,
+    slot_at: SlotPosition,
     range: PageRange,
-    left: &mut Spares,
+    pruned: &mut Spares,
     counts: &mut TableCounts,
 )
-    requires some { 0 < place.level }
-    requires known { place.level ≤ top_level }
-    requires shaped { IsShaped place.level slot.old }
-    requires in_space { end_of (slot_pages place.level place.first) ≤ PAGES }
-    requires met { IsTrue (meets (slot_pages place.level place.first) range) }
-    requires counted { (target : ℕ) → tables_at target place.level slot.old ≤ count_at counts.old target }
-    requires rest { place.level ≡ 1 → (k : ℕ) → k < slots_per_table
-        → meets (slot_pages 0 (place.first + k * pages_of 0)) range ≡ false → child slot.old k ≡ Empty }
+    requires some { 0 < slot_at.level }
+    requires known { slot_at.level ≤ top_level }
+    requires shaped { IsShaped slot_at.level slot.old }
+    requires in_space { end_of (slot_pages slot_at.level slot_at.first) ≤ PAGES }
+    requires met { IsTrue (meets (slot_pages slot_at.level slot_at.first) range) }
+    requires counted { (target : ℕ) → tables_at target slot_at.level slot.old ≤ count_at counts.old target }
+    requires rest { slot_at.level ≡ 1 → (k : ℕ) → k < slots_per_table
+        → meets (slot_pages 0 (slot_at.first + k * pages_of 0)) range ≡ false → child slot.old k ≡ Empty }
     ensures emptied { slot.new ≡ Empty }
-    ensures put { (kind : Kind) → of kind left.new ≡ of kind left.old + tables_in kind place.level slot.old }
-    ensures counted { (target : ℕ) → count_at counts.new target + tables_at target place.level slot.old
+    ensures put { (kind : Kind) → of kind pruned.new ≡ of kind pruned.old + tables_in kind slot_at.level slot.old }
+    ensures counted { (target : ℕ) → count_at counts.new target + tables_at target slot_at.level slot.old
         ≡ count_at counts.old target }
 {
-    if place.level == 1 && slot.is_table() {
-        let (low, high) = slots_met(0, place.first, range);
-        release_part(slot, low, high, left, counts);
+    if slot_at.level == 1 && slot.is_table() {
+        let (low, high) = slots_met(0, slot_at.first, range);
+        release_part(slot, low, high, pruned, counts);
         return;
     }
-    clear(slot, place.level, left, counts);
+    clear(slot, slot_at.level, pruned, counts);
 }

@@ -29,13 +29,13 @@ const _: () = prove!(size_of::<Slot>() == 16);
 
 impl Slot {
     ghost use Rattle.std.specs.Prelude.{◌≡◌, MatchOption};
-    ghost use Rattle.gv_table.specs.Names.{IsTold};
+    ghost use Rattle.gv_table.specs.BufferNames.{IsEncodable};
     ghost use Rattle.gv_table.specs.Tree.{leaf, is_table, HasNoEntry};
 
-    /// The leaf of an entry, whose buffer is told by its index alone.
+    /// The leaf of an entry, whose buffer is encoded by its index alone.
     #[inline(always)]
     pub fn leaf(entry: Entry) -> Slot
-        ensures leaf { IsTold entry.backing 1 → result ≡ leaf entry }
+        ensures leaf { IsEncodable entry.backing 1 → result ≡ leaf entry }
         ensures other { is_table result ≡ false }
     {
         let flags = entry.flags;
@@ -78,7 +78,7 @@ impl Slot {
     }
 }
 
-/// Puts another slot in a slot's place. A table that was there is given back in a frame of its own, which is as large as it.
+/// Puts another slot where a slot was. A table that was there is given back in a frame of its own, which is as large as it.
 pub fn overwrite(slot: &mut Slot, new: Slot)
     ensures { slot.new ≡ new }
 {

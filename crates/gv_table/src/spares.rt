@@ -1,15 +1,15 @@
-//! Tables that are in no tree.
+//! Empty tables that are in no tree.
 ghost use Rattle.std.specs.Prelude.{◌≡◌, ◌≢◌, ◌≤◌, ◌+◌, IfOk, OnErr};
 ghost use Rattle.gv_table.specs.Chain.{AreEmpty};
 ghost use Rattle.gv_table.specs.PageChain.{ArePagesEmpty};
 ghost use Rattle.gv_table.specs.Kinds.{Kind, of, one_of, none};
 
 use crate::chain::Chain;
+use crate::kind_counts::KindCounts;
 use crate::levels::SLOTS;
 use crate::page_chain::PageChain;
 use crate::page_slot::Pages;
 use crate::slot::Slot;
-use crate::tables::Tables;
 use std::alloc::{AllocError, Global};
 use std::marker::Model;
 
@@ -21,9 +21,9 @@ pub struct Spares {
 }
 
 impl Model for Spares {
-    ghost use Rattle.gv_table.specs.declared.tables.Tables.{Tables};
+    ghost use Rattle.gv_table.specs.declared.kind_counts.KindCounts.{KindCounts};
 
-    ghost Value = { Tables };
+    ghost Value = { KindCounts };
 
     ghost view = { λ s. record { pages = s.pages; slots = s.slots } };
 }
@@ -40,7 +40,7 @@ impl Spares {
     }
 
     /// So many empty tables. Where memory for one is refused, those made so far are given back to the system.
-    pub(crate) fn make(alloc: Global, need: Tables) -> Result<Spares, AllocError>
+    pub(crate) fn make(alloc: Global, need: KindCounts) -> Result<Spares, AllocError>
         ensures number { IfOk result (λ spares. spares ≡ need) }
         ensures some_needed { OnErr result (need ≢ none) }
     {

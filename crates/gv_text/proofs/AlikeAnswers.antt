@@ -8,7 +8,7 @@ use Rattle.gv_journal.specs.declared.item.ItemKind.{ItemKind}
 use Rattle.gv_journal.specs.declared.item.ItemKind.TheVariants.{Bind, Withdrawal}
 use Rattle.gv_journal.proofs.BareItemLemmas.{first_alike, items_alike, is_withdrawn_alike}
 use Rattle.gv_journal.proofs.MapLemmas.{reverse-map}
-use Rattle.gv_session.specs.Reply.{texts_joined, journal_reply, item_text, kind_text, liveness_text}
+use Rattle.gv_session.specs.Texts.{texts_joined, journal_reply, item_text, kind_text, liveness_text}
 use Rattle.gv_text.proofs.AlikeTexts.{lines_same}
 
 -- An item of a journal is written by its queue and number, or by what it withdraws.

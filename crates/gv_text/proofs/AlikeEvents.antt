@@ -17,7 +17,7 @@ use Rattle.gv_vm.specs.declared.outcome.Outcome.{Outcome}
 use Rattle.gv_vm.specs.declared.outcome.Outcome.TheVariants.{Refused as RefusedAt}
 use Rattle.gv_text.specs.AlikePlans.{AreAmple}
 use Rattle.gv_vm.specs.Plans.{once, AreAsked}
-use Rattle.gv_session.specs.Said.{is_out_of_memory, outcome_out_of_memory, reply_out_of_memory}
+use Rattle.gv_session.specs.ReplyTexts.{is_out_of_memory, outcome_out_of_memory, reply_out_of_memory}
 
 -- No reply is want of memory where none is told so.
 

@@ -3,12 +3,12 @@ use Rattle.std.proofs.Common.{◌≡◌, ◌<◌, ℕ, List, length, Option, Som
 use Rattle.std.specs.Prelude.{IsSomeAnd}
 use Rattle.gv_types.specs.Bounds.{BoundsState, byte_area}
 use Rattle.gv_sync.specs.Seats.{most_timelines}
-use Rattle.gv_lines.specs.Chain.{all_read}
+use Rattle.gv_lines.specs.OptionSteps.{all_read}
 use Rattle.gv_lines.specs.Clause.{operations_of, waits_of, signals_of}
 use Rattle.gv_lines.specs.Grammar.{parsed}
 use Rattle.gv_lines.specs.declared.line.Line.{Line}
 use Rattle.gv_lines.specs.declared.line.Line.TheVariants as line
-use Rattle.gv_session.specs.Asking.{op_named, point_named}
+use Rattle.gv_session.specs.Requests.{op_named, point_named}
 use Rattle.gv_session.specs.Line.{Written, Of, MaySetLimits, MaySetBounds, SetsBounds, Runs, IsGood, RunsText, IsGoodText}
 use Rattle.gv_session.specs.State.{SessionState, Buffers, buffer_named, timeline_named}
 use Rattle.gv_text.proofs.AlikeStates.{AreAlikeStates, WriteAlike}

@@ -16,8 +16,8 @@ use Rattle.gv_vm.specs.declared.jobs.Access.{Access}
 use Rattle.gv_vm.proofs.AlikeStepLemmas.{step_alike}
 use Rattle.gv_text.specs.AlikePlans.{AreAmple}
 use Rattle.gv_session.specs.Line.{Written, BeginsJob, HasTooMany}
-use Rattle.gv_session.specs.Reply.{refused_reply}
-use Rattle.gv_session.specs.Said.{said}
+use Rattle.gv_session.specs.Texts.{refused_reply}
+use Rattle.gv_session.specs.ReplyTexts.{said}
 use Rattle.gv_session.specs.State.{SessionState, names_alone, begun}
 use Rattle.gv_text.proofs.AlikeEvents.{once_only, are_ample}
 use Rattle.gv_text.proofs.AlikeReplies.{said_alike}

@@ -25,11 +25,11 @@ use Rattle.gv_lines.specs.declared.line.Line.TheVariants as line
 use Rattle.gv_lines.specs.declared.operation.Operation.{Operation}
 use Rattle.gv_lines.specs.declared.point.NamedPoint.{NamedPoint}
 use Rattle.gv_text.specs.AlikePlans.{AreAllAlike, AreAmple, StayAlike}
-use Rattle.gv_session.specs.Asking.{op_named, point_named, access_named}
+use Rattle.gv_session.specs.Requests.{op_named, point_named, access_named}
 use Rattle.gv_vm.specs.Plans.{once, serving, IsCarriedOut}
 use Rattle.gv_session.specs.Line.{Written, DoesOnce, Withdraws, Answers, Of, SetsBounds, Makes, declared, BeginsJob, HasTooMany, BindsRequest, line_limits, Runs}
-use Rattle.gv_session.specs.Reply.{refused_reply, lines_reply, mapping_text, place_reply, tables_reply, number_reply, journal_reply}
-use Rattle.gv_session.specs.Said.{said, said_of_withdrawal, told, told_said, uses_said, plan_said}
+use Rattle.gv_session.specs.Texts.{refused_reply, lines_reply, mapping_text, place_reply, tables_reply, number_reply, journal_reply}
+use Rattle.gv_session.specs.ReplyTexts.{said, said_of_withdrawal, told, told_said, uses_said, plan_said}
 use Rattle.gv_session.specs.State.{SessionState, Buffers, names_alone, buffer_named, timeline_named, begun, empty_world}
 use Rattle.gv_session.specs.declared.stage.Stage.TheVariants.{Bounded, Begun}
 use Rattle.gv_text.proofs.AlikeAnswers.{journal_alike}
@@ -177,13 +177,13 @@ module _ (s s' t t' : SessionState) (w w' : Written) (alike : AreAlikeStates s s
 
   value_line_same : (name : List ℕ) → Runs (line.Value name) s w t → Runs (line.Value name) s' w' t' → WriteAlike w w' t t'
   value_line_same name here here' =
-      let x = of_there (timeline_named s.timelines name) (λ place. Answers (number_reply s.timelines place (slice_index s.world.numbers place)) s w t) here in
-      let x' = of_there (timeline_named s'.timelines name) (λ place. Answers (number_reply s'.timelines place (slice_index s'.world.numbers place)) s' w' t') here' in
+      let x = of_there (timeline_named s.timelines name) (λ index. Answers (number_reply s.timelines index (slice_index s.world.numbers index)) s w t) here in
+      let x' = of_there (timeline_named s'.timelines name) (λ index. Answers (number_reply s'.timelines index (slice_index s'.world.numbers index)) s' w' t') here' in
       let same : x.0 ≡ x'.0 = same_Some x.0 x'.0 (sym x.1 ∙ ap (λ (timelines : List (List ℕ)). timeline_named timelines name) alike.timelines ∙ x'.1) in
       answers_alike s s' alike w w' t t' (number_reply s.timelines x.0 (slice_index s.world.numbers x.0)) (number_reply s'.timelines x'.0 (slice_index s'.world.numbers x'.0))
       (ap (λ (numbers : List ℕ). number_reply s.timelines x.0 (slice_index numbers x.0)) alike.worlds.numbers
       ∙ ap (λ (timelines : List (List ℕ)). number_reply timelines x.0 (slice_index s'.world.numbers x.0)) alike.timelines
-      ∙ ap (λ (place : ℕ). number_reply s'.timelines place (slice_index s'.world.numbers place)) same) x.2 x'.2
+      ∙ ap (λ (index : ℕ). number_reply s'.timelines index (slice_index s'.world.numbers index)) same) x.2 x'.2
 
   plan_line_same : (operation : Operation) → Runs (line.Plan operation) s w t → Runs (line.Plan operation) s' w' t' → WriteAlike w w' t t'
   plan_line_same operation here here' =

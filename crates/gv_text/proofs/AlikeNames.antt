@@ -7,10 +7,10 @@ use Rattle.gv_types.specs.declared.request.Request.{Request}
 use Rattle.gv_journal.specs.Bare.{BareRequest, bare_request}
 use Rattle.gv_vm.specs.Alike.{AreAlikeReplies}
 use Rattle.gv_vm.specs.declared.event.Reply.{Reply}
-use Rattle.gv_lines.specs.Chain.{all_read}
+use Rattle.gv_lines.specs.OptionSteps.{all_read}
 use Rattle.gv_lines.specs.Clause.{operations_of, waits_of, signals_of}
 use Rattle.gv_lines.specs.declared.clause.Clause.{Clause}
-use Rattle.gv_session.specs.Asking.{op_named, point_named, IsRequest}
+use Rattle.gv_session.specs.Requests.{op_named, point_named, IsRequest}
 use Rattle.gv_session.specs.Line.{declared}
 use Rattle.gv_session.specs.State.{SessionState, Buffers}
 use Rattle.gv_text.proofs.AlikeReplies.{ReadsAlike, same_said}

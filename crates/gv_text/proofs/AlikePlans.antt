@@ -14,8 +14,8 @@ use Rattle.gv_vm.specs.declared.event.Reply.TheVariants.{NotPut, Begun}
 use Rattle.gv_vm.proofs.AlikeStepLemmas.{step_alike}
 use Rattle.gv_text.specs.AlikePlans.{AreAskedAlike, AskAlike, AreAmple, StayAlike}
 use Rattle.gv_vm.specs.Plans.{Plan, once, serving, taking, looks, carrying_out, payments, AreAsked, IsCarriedOut, nothing, is_put, is_taken, is_accepted, is_raised, looked_of, after_looks}
-use Rattle.gv_vm.specs.declared.event.Looked.{Looked}
-use Rattle.gv_vm.specs.declared.event.Looked.TheVariants.{AllReached, Lacked, Other}
+use Rattle.gv_vm.specs.declared.event.LookResult.{LookResult}
+use Rattle.gv_vm.specs.declared.event.LookResult.TheVariants.{NoneLacked, Lacked, Other}
 use Rattle.gv_vm.proofs.PlanLemmas.{put_goes, not_put, taken_goes, not_taken, reached_goes, look_ends, raised_goes, not_raised, accepted_goes, not_accepted}
 
 -- What a served request goes on by is the same of the same replies.
@@ -84,8 +84,8 @@ carrying_alike queue signals (r ∷ rs) (r' ∷ rs') all =
 carrying_alike queue signals [] (r' ∷ rs') all = absurd all
 carrying_alike queue signals (r ∷ rs) [] all = absurd all
 
-stopped_alike : (queue : ℕ) (signals : List Point) (came : Looked) → AskAlike (after_looks true queue signals came) (after_looks true queue signals came)
-stopped_alike queue signals AllReached rs rs' all = carrying_alike queue signals rs rs' all
+stopped_alike : (queue : ℕ) (signals : List Point) (came : LookResult) → AskAlike (after_looks true queue signals came) (after_looks true queue signals came)
+stopped_alike queue signals NoneLacked rs rs' all = carrying_alike queue signals rs rs' all
 stopped_alike queue signals Lacked rs rs' all = once_alike (GiveUp queue) (GiveUp queue) refl rs rs' all
 stopped_alike queue signals Other rs rs' all = tt
 
@@ -95,13 +95,13 @@ looks_alike queue (wait ∷ waits) signals [] [] all = refl
 looks_alike queue (wait ∷ waits) signals (r ∷ rs) (r' ∷ rs') all =
     let plan = looks true queue (wait ∷ waits) signals in
     let same = looked_alike r r' all.0 in
-    let stops = λ (came : Looked) (is : looked_of r ≡ came) (ends : came ≢ AllReached).
+    let stops = λ (came : LookResult) (is : looked_of r ≡ came) (ends : came ≢ NoneLacked).
     asked_as (plan (r ∷ rs)) (plan (r' ∷ rs')) (after_looks true queue signals came rs) (after_looks true queue signals came rs')
-    (look_ends true queue wait waits signals r (λ e. ends (sym is ∙ e)) rs ∙ ap (λ (c : Looked). after_looks true queue signals c rs) is)
-    (look_ends true queue wait waits signals r' (λ e. ends (sym is ∙ same ∙ e)) rs' ∙ ap (λ (c : Looked). after_looks true queue signals c rs') (sym same ∙ is))
+    (look_ends true queue wait waits signals r (λ e. ends (sym is ∙ e)) rs ∙ ap (λ (c : LookResult). after_looks true queue signals c rs) is)
+    (look_ends true queue wait waits signals r' (λ e. ends (sym is ∙ same ∙ e)) rs' ∙ ap (λ (c : LookResult). after_looks true queue signals c rs') (sym same ∙ is))
     (stopped_alike queue signals came rs rs' all.1) in
     (elim (looked_of r) as (λ came. looked_of r ≡ came → AreAskedAlike (plan (r ∷ rs)) (plan (r' ∷ rs'))) [
-      | AllReached ↦ λ is. asked_as (plan (r ∷ rs)) (plan (r' ∷ rs')) (looks true queue waits signals rs) (looks true queue waits signals rs')
+      | NoneLacked ↦ λ is. asked_as (plan (r ∷ rs)) (plan (r' ∷ rs')) (looks true queue waits signals rs) (looks true queue waits signals rs')
           (reached_goes true queue wait waits signals r is rs) (reached_goes true queue wait waits signals r' (sym same ∙ is) rs')
           (looks_alike queue waits signals rs rs' all.1)
       | Lacked ↦ λ is. stops Lacked is (λ e. cc)

@@ -9,8 +9,8 @@ use Rattle.gv_vm.specs.declared.event.Reply.{Reply}
 use Rattle.gv_vm.specs.declared.event.Reply.TheVariants.{NotPut, Begun}
 use Rattle.gv_vm.specs.declared.places.Place.{Place}
 use Rattle.gv_text.specs.AlikePlans.{AreAllAlike}
-use Rattle.gv_session.specs.Reply.{begun_reply}
-use Rattle.gv_session.specs.Said.{said, said_of_withdrawal, told}
+use Rattle.gv_session.specs.Texts.{begun_reply}
+use Rattle.gv_session.specs.ReplyTexts.{said, said_of_withdrawal, told}
 
 -- What replies to an event say is the same where it leaves out the requests that they give back, and the memory of places.
 pub record ReadsAlike {Y : Type 0} (say : Reply → Y) : Type 0 where

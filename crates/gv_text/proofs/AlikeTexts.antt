@@ -1,7 +1,7 @@
 -- Lists of which the same is shown are written as the same lines.
 use Rattle.std.proofs.Common.{◌≡◌, ℕ, List, [], ◌∷◌, ◌++◌, map, refl, sym, ap, ◌∙◌}
 use Rattle.std.specs.List.{flat_map}
-use Rattle.gv_session.specs.Reply.{reply, lines_reply}
+use Rattle.gv_session.specs.Texts.{reply, lines_reply}
 
 each_line : {X Z : Type 0} (write : X → List ℕ) (shown : X → Z) (other : Z → List ℕ) → ((x : X) → write x ≡ other (shown x)) → (xs : List X) →
     flat_map (λ x. reply (write x ∷ [])) xs ≡ flat_map (λ z. reply (other z ∷ [])) (map shown xs)

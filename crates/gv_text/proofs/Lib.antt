@@ -1,4 +1,4 @@
-pub mod Front
+pub mod LinesRun
 pub mod AlikeTexts
 pub mod AlikeReplies
 pub mod AlikeAnswers

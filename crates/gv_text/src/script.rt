@@ -5,10 +5,10 @@ ghost use Rattle.gv_text.specs.Reading.{script_limit, most_read, TakesFew, Tells
 ghost use Rattle.gv_session.specs.State.{start};
 ghost use Rattle.gv_text.specs.Script.{IsRun, StopsAt, IsStart, Ends, LineEnds};
 
-use crate::transfer::read_script;
+use crate::reading::read_script;
 use gv_io::{Output, Sink, Source};
 use gv_lines::{Slip, split_once};
-use gv_session::{LineFault, ScriptFault, Session, run_text, tell_why, why_bad};
+use gv_session::{LineFault, ScriptFault, Session, run_text, why_bad, write_why};
 use std::alloc::Global;
 
 /// Reads a whole script, then runs its lines one after another and writes the reply of each.
@@ -147,7 +147,7 @@ impl ScriptRun {
         if rest.is_empty() {
             Ok(())
         } else {
-            tell_why(&mut self.reply, &Slip::no_line_end(rest.len()));
+            write_why(&mut self.reply, &Slip::no_line_end(rest.len()));
             Err(ScriptFault::BadLine { line: done + 1 })
         }
     }
@@ -169,7 +169,7 @@ impl ScriptRun {
         match run_text(alloc, &mut self.session, line, &mut self.reply) {
             Ok(()) => Ok(output.push(writer, self.reply.as_bytes())?),
             Err(LineFault::Bad) => {
-                tell_why(&mut self.reply, &why_bad(alloc, &self.session, line));
+                write_why(&mut self.reply, &why_bad(alloc, &self.session, line));
                 Err(ScriptFault::BadLine { line: number })
             }
             Err(LineFault::OutOfMemory) => Err(ScriptFault::OutOfMemory),

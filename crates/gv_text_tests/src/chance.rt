@@ -6,8 +6,8 @@ use std::fmt::Write;
 
 /// One of some texts.
 pub fn pick<'a>(random: &mut Random, texts: &[&'a str]) -> &'a str {
-    let place = random.below((texts.len() as u64).max(1));
-    texts.get(place as usize).copied().unwrap_or("")
+    let index = random.below((texts.len() as u64).max(1));
+    texts.get(index as usize).copied().unwrap_or("")
 }
 
 /// Writes a form, in which `$` and a letter stand for a number by chance in hexadecimal digits. What a letter means may go by a

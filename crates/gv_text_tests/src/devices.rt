@@ -19,12 +19,12 @@ pub const WHOLE: Devices = Devices {
     writes: usize::MAX,
 };
 
-/// Input that comes so many bytes a read. The read after `left` of them fails.
+/// Input that comes so many bytes a read. The read after `calls_remaining` of them fails.
 #[derive(Drop)]
 pub struct FailingSource<'a> {
     pub rest: &'a [u8],
     pub step: usize,
-    pub left: usize,
+    pub calls_remaining: usize,
     pub failed: bool,
 }
 
@@ -40,11 +40,11 @@ impl<'a> Source for FailingSource<'a> {
     ghost fails = { λ _ _. Unit {0} };
 
     fn read(&mut self, buffer: &mut [u8]) -> Result<usize, ReadFault> {
-        if self.left == 0 {
+        if self.calls_remaining == 0 {
             self.failed = true;
             return Err(ReadFault);
         }
-        self.left -= 1;
+        self.calls_remaining -= 1;
         let count = self.rest.len().min(self.step).min(buffer.len());
         let (given, rest) = self.rest.split_at(count);
         buffer[..count].copy_from_slice(given);
@@ -53,12 +53,12 @@ impl<'a> Source for FailingSource<'a> {
     }
 }
 
-/// Replies in memory, so many bytes a write. The write after `left` of them fails.
+/// Replies in memory, so many bytes a write. The write after `calls_remaining` of them fails.
 #[derive(Drop)]
 pub struct FailingSink {
     pub bytes: Vec<u8>,
     pub step: usize,
-    pub left: usize,
+    pub calls_remaining: usize,
     pub failed: bool,
 }
 
@@ -73,11 +73,11 @@ impl Sink for FailingSink {
 
     fn write(&mut self, bytes: &[u8]) -> Result<usize, WriteFault> {
         let count = bytes.len().min(self.step.max(1));
-        if self.left == 0 || self.bytes.extend_from_slice(&bytes[..count]).is_err() {
+        if self.calls_remaining == 0 || self.bytes.extend_from_slice(&bytes[..count]).is_err() {
             self.failed = true;
             return Err(WriteFault);
         }
-        self.left -= 1;
+        self.calls_remaining -= 1;
         Ok(count)
     }
 }

@@ -15,19 +15,19 @@ mod digest;
 #[cfg(test)]
 mod drawing;
 #[cfg(test)]
-mod drawn;
+mod drawing_digests;
 #[cfg(test)]
 mod failing;
 #[cfg(test)]
 mod fits;
+#[cfg(test)]
+mod limits;
 #[cfg(test)]
 mod lines;
 #[cfg(test)]
 mod lists;
 #[cfg(test)]
 mod logs;
-#[cfg(test)]
-mod many;
 #[cfg(test)]
 mod reasons;
 #[cfg(test)]

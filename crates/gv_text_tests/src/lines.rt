@@ -5,8 +5,8 @@ mod reasons;
 mod requests;
 
 use gv_lines::{
-    AccessList, Clause, ClauseList, Line, Name, Slip, explain, explain_serve, parse_line, split_once,
-    write_hex,
+    AccessList, Clause, ClauseList, Line, Name, Slip, explain, explain_serve, parse_line,
+    split_once, write_hex,
 };
 use std::alloc::{AllocError, Global};
 use std::fmt::Write;

@@ -28,8 +28,8 @@ fn says_why_a_line_is_bad_where_it_stands(rt: HostRuntime) {
 #[test]
 fn says_that_a_timeline_is_the_65th(rt: HostRuntime) -> Result<(), Fail> {
     let mut script = String::new(rt.alloc());
-    for place in 0..65u32 {
-        writeln!(script, "timeline t{place}")?;
+    for index in 0..65u32 {
+        writeln!(script, "timeline t{index}")?;
     }
     let wanted = "a 65th timeline; there are at most 64";
     expect(&rt, script.as_str(), false, wanted);

@@ -57,8 +57,8 @@ fn expect_cuts(
 
 #[test]
 fn prefixes_end_at_their_last_line(rt: HostRuntime) -> Result<(), AllocError> {
-    for (place, line) in LINES.iter().enumerate() {
-        expect_cuts(&rt, place.saturating_add(1), *line)?;
+    for (index, line) in LINES.iter().enumerate() {
+        expect_cuts(&rt, index.saturating_add(1), *line)?;
     }
     Ok(())
 }

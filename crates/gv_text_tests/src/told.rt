@@ -43,13 +43,13 @@ pub fn told(
     let mut source = FailingSource {
         rest: input,
         step: devices.given,
-        left: devices.reads,
+        calls_remaining: devices.reads,
         failed: false,
     };
     let mut sink = FailingSink {
         bytes: Vec::new(alloc),
         step: devices.taken,
-        left: devices.writes,
+        calls_remaining: devices.writes,
         failed: false,
     };
     let ended = match way {

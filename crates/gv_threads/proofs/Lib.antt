@@ -1,7 +1,7 @@
-pub mod Flags
-pub mod Texts
-pub mod Named
-pub mod Kept
-pub mod Firsts
-pub mod Asks
-pub mod Served
+pub mod DeviceFlags
+pub mod OneLineMore
+pub mod UndeclaredNames
+pub mod LinesRead
+pub mod FirstPart
+pub mod LastPart
+pub mod WholeRun

@@ -1,7 +1,7 @@
 pub mod Ending
 pub mod Script
 pub mod Parts
-pub mod Standing
+pub mod ReadSoFar
 pub mod Naming
 pub mod Reading
 pub mod Running

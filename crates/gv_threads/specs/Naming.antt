@@ -6,7 +6,7 @@ use Rattle.gv_lines.specs.declared.clause.Clause.{Clause}
 use Rattle.gv_lines.specs.declared.line.Line.{Line}
 use Rattle.gv_lines.specs.declared.line.Line.TheVariants as line
 use Rattle.gv_vm.specs.Outcomes.{queues}
-use Rattle.gv_session.specs.Asking.{op_named}
+use Rattle.gv_session.specs.Requests.{op_named}
 use Rattle.gv_session.specs.Line.{AreDeclared}
 use Rattle.gv_session.specs.State.{Buffers, buffer_named, timeline_named}
 use Rattle.gv_threads.specs.Parts.{unnumbered}
@@ -38,7 +38,7 @@ pub record IsFirstBad {X : Type 0} (holds : X → Type 0) (entries : List (ℕ �
   pub bad : ¬ holds entry
 
 -- the line of this number is the first of the requests, and then of the last part, that names a buffer which isn't declared
-abbrev pub NamesNone : Buffers → ThreadsScriptState → ℕ → Type 0
-NamesNone buffers s number =
+abbrev pub NamesUndeclared : Buffers → ThreadsScriptState → ℕ → Type 0
+NamesUndeclared buffers s number =
     IsFirstBad (MayBePut s.queues buffers s.timelines) s.requests number
     ⊎ (All (MayBePut s.queues buffers s.timelines) (unnumbered s.requests) × IsFirstBad (HasBuffer buffers) s.questions number)

@@ -11,14 +11,14 @@ use Rattle.gv_lines.specs.declared.line.Line.TheVariants as line
 use Rattle.gv_session.specs.Line.{line_limits}
 use Rattle.gv_session.specs.Question.{IsQuestion}
 use Rattle.gv_threads.specs.Script.{ThreadsScriptState}
-use Rattle.gv_threads.specs.declared.setting.Setting.{Setting}
-use Rattle.gv_threads.specs.declared.setting.Setting.TheVariants.{Stands, Buffer, Raise}
+use Rattle.gv_threads.specs.declared.setting.SetupLine.{SetupLine}
+use Rattle.gv_threads.specs.declared.setting.SetupLine.TheVariants.{AlreadySet, Buffer, Raise}
 
 -- what a line of the first part does; nothing for any other line
-abbrev pub settings_in : Line → List Setting
-settings_in (line.Space start len reserved_start reserved_len) = Stands ∷ []
-settings_in (line.Limits buffers mappings items) = Stands ∷ []
-settings_in (line.Timeline name) = Stands ∷ []
+abbrev pub settings_in : Line → List SetupLine
+settings_in (line.Space start len reserved_start reserved_len) = AlreadySet ∷ []
+settings_in (line.Limits buffers mappings items) = AlreadySet ∷ []
+settings_in (line.Timeline name) = AlreadySet ∷ []
 settings_in (line.Buffer name pages) = Buffer name pages ∷ []
 settings_in (line.Raise point) = Raise point ∷ []
 settings_in other = []
@@ -78,7 +78,7 @@ limits_of lines = last_of greatest (flat_map limits_in lines)
 abbrev pub timelines_of : List Line → List (List ℕ)
 timelines_of lines = flat_map timelines_in lines
 
-abbrev pub settings_of : List Line → List Setting
+abbrev pub settings_of : List Line → List SetupLine
 settings_of lines = flat_map settings_in lines
 
 abbrev pub requests_of : List Line → List (List Clause)

@@ -6,7 +6,7 @@ use Rattle.gv_types.specs.declared.request.Request.{Request}
 use Rattle.gv_sync.specs.Raises.{raised, values_on}
 use Rattle.gv_sync.specs.Marks.{IsNoLess}
 use Rattle.gv_sync.specs.Seats.{SeatState, after_load, first_seat, mark_of}
-use Rattle.gv_sync.specs.Turns.{HasRaised}
+use Rattle.gv_sync.specs.SeatSteps.{HasRaised}
 use Rattle.gv_vm.specs.Outcomes.{told_to}
 use Rattle.gv_vm.specs.State.{VmState, IsVm, new_vm}
 use Rattle.gv_vm.specs.Step.{step}
@@ -17,22 +17,22 @@ use Rattle.gv_lines.specs.Clause.{queue_asked}
 use Rattle.gv_lines.specs.declared.clause.Clause.{Clause}
 use Rattle.gv_lines.specs.declared.line.Line.{Line}
 use Rattle.gv_lines.specs.declared.line.Line.TheVariants as line
-use Rattle.gv_session.specs.Asking.{point_named, IsRequest}
+use Rattle.gv_session.specs.Requests.{point_named, IsRequest}
 use Rattle.gv_session.specs.Line.{Of, declared}
 use Rattle.gv_session.specs.Question.{IsAnswer}
 use Rattle.gv_text.specs.Reading.{script_limit}
-use Rattle.gv_session.specs.Reply.{ok_reply, number_reply}
-use Rattle.gv_session.specs.Said.{said}
+use Rattle.gv_session.specs.Texts.{ok_reply, number_reply}
+use Rattle.gv_session.specs.ReplyTexts.{said}
 use Rattle.gv_session.specs.State.{Buffers, buffer_named, start, names_alone, timeline_named}
 use Rattle.gv_queues.specs.Driving.{AreSomeOf, requests_on}
-use Rattle.gv_queues.specs.Sharing.{after_splits}
+use Rattle.gv_queues.specs.SeatSplits.{after_splits}
 use Rattle.gv_queues.specs.declared.finishing.QueueEnd.{QueueEnd}
 use Rattle.gv_threads.specs.Ending.{end_lines}
 use Rattle.gv_threads.specs.Parts.{AreLinesOf, area_of, limits_of, questions_of, requests_of, settings_of, timelines_of}
-use Rattle.gv_threads.specs.Standing.{MayStandAll}
+use Rattle.gv_threads.specs.ReadSoFar.{MayStandAll}
 use Rattle.gv_threads.specs.declared.harness.Harness.{Harness}
-use Rattle.gv_threads.specs.declared.setting.Setting.{Setting}
-use Rattle.gv_threads.specs.declared.setting.Setting.TheVariants.{Stands, Buffer, Raise}
+use Rattle.gv_threads.specs.declared.setting.SetupLine.{SetupLine}
+use Rattle.gv_threads.specs.declared.setting.SetupLine.TheVariants.{AlreadySet, Buffer, Raise}
 
 -- what lines act on before the workers: the address space, the declared buffers, and the points raised to so far, in order
 pub record Ready : Type 0 where
@@ -65,13 +65,13 @@ pub record Raises (timelines : List (List ℕ)) (p : Point) (old : Ready) (text 
   pub text_is : text ≡ number_reply timelines p.timeline (raised (values_on p.timeline new.raises))
 
 -- a line of the first part is carried out so, and writes this text
-abbrev pub SetsUp : List (List ℕ) → Setting → Ready → List ℕ → Ready → Type 0
-SetsUp timelines Stands old text new = (text ≡ ok_reply) × (new ≡ old)
+abbrev pub SetsUp : List (List ℕ) → SetupLine → Ready → List ℕ → Ready → Type 0
+SetsUp timelines AlreadySet old text new = (text ≡ ok_reply) × (new ≡ old)
 SetsUp timelines (Buffer name pages) old text new = MakesBuffer timelines name pages old text new
 SetsUp timelines (Raise point) old text new = Of (point_named timelines point) (λ p. Raises timelines p old text new)
 
 -- these lines, one after another
-abbrev pub SetUpAll : List (List ℕ) → List Setting → Ready → List ℕ → Ready → Type 0
+abbrev pub SetUpAll : List (List ℕ) → List SetupLine → Ready → List ℕ → Ready → Type 0
 SetUpAll timelines [] old text new = (text ≡ []) × (new ≡ old)
 SetUpAll timelines (setting ∷ settings) old text new =
     (here after : List ℕ) × (mid : Ready)
@@ -123,7 +123,7 @@ begun_by lines = record { vm = new_vm (area_of lines) (limits_of lines); buffers
 -- What is written behind the first part, where these requests were to be put: a line for each of so many queues, and the answers of
 -- the last part on the address space that comes back. The seat that looks is the one that raised in the first part, from which one
 -- was split off for each queue: it took no other step.
-pub record IsServed (ready : Ready) (timelines : List (List ℕ)) (requests : List (ℕ × Request)) (questions : List Line) (count : ℕ) (text : List ℕ) : Type 0 where
+pub record IsRestOfRun (ready : Ready) (timelines : List (List ℕ)) (requests : List (ℕ × Request)) (questions : List Line) (count : ℕ) (text : List ℕ) : Type 0 where
   pub back : VmState
   pub sound : IsVm back
   pub ends : List QueueEnd
@@ -146,7 +146,7 @@ pub record IsTextOf (lines : List Line) (begins : Ready) (count : ℕ) (text : L
   pub requests : List (ℕ × Request)
   pub named : AreNamed ready.buffers (timelines_of lines) (requests_of lines) requests
   pub rest : List ℕ
-  pub served : IsServed ready (timelines_of lines) requests (questions_of lines) count rest
+  pub served : IsRestOfRun ready (timelines_of lines) requests (questions_of lines) count rest
   pub text_is : text ≡ first ++ rest
 
 -- The text is that of a run of the script on so many queues.

@@ -10,7 +10,7 @@ use Rattle.gv_session.specs.declared.fault.ScriptFault.{ScriptFault}
 use Rattle.gv_session.specs.declared.fault.ScriptFault.TheVariants.{BadLine, ScriptTooLong, ReadFault, WriteFault, OutOfMemory}
 use Rattle.gv_session.specs.declared.stage.Stage.{Stage}
 use Rattle.gv_threads.specs.declared.script.Part.{Part}
-use Rattle.gv_threads.specs.declared.setting.Setting.{Setting}
+use Rattle.gv_threads.specs.declared.setting.SetupLine.{SetupLine}
 
 -- the part of its last line, which settings may still come, the bounds and the limits that it sets, for how many queues it was read, and how many requests wait on one at most; the timelines
 -- that it declares, the lines of its parts, each with its number, and whether there was memory for each of these
@@ -22,10 +22,10 @@ pub record ThreadsScriptState : Type 0 where
   pub queues : ℕ
   pub depth : ℕ
   pub timelines : List (List ℕ)
-  pub settings : List (ℕ × Setting)
+  pub settings : List (ℕ × SetupLine)
   pub requests : List (ℕ × List Clause)
   pub questions : List (ℕ × Line)
-  pub whole : Bool
+  pub has_memory : Bool
 
 -- how many requests may wait on a queue of threads
 abbrev pub most_waiting : ℕ

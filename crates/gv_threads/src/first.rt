@@ -10,7 +10,7 @@ ghost use Rattle.gv_threads.specs.Script.{EndsByLine, IsFor};
 
 use crate::harness::Harness;
 use crate::script::ThreadsScript;
-use crate::setting::Setting;
+use crate::setting::SetupLine;
 use gv_lines::Name;
 use gv_sync::laws;
 use gv_text::{
@@ -20,7 +20,7 @@ use gv_types::{Fault, Request};
 use std::alloc::Global;
 use std::mem;
 
-/// MakesBuffer a buffer and declares its name, unless it is declared already, and writes the reply. A refusal comes before want of
+/// Makes a buffer and declares its name, unless it is declared already, and writes the reply. A refusal comes before want of
 /// memory for the name.
 fn make_buffer(
     alloc: Global,
@@ -54,7 +54,7 @@ fn make_buffer(
 /// Carries out a line of the first part, and writes its reply.
 fn set_up(
     alloc: Global,
-    setting: Setting,
+    setting: SetupLine,
     names: &TimelineNames,
     harness: &mut Harness,
     out: &mut String,
@@ -71,11 +71,11 @@ fn set_up(
         × (string_bytes out.new ≡ string_bytes out.old ++ text)) }
 {
     match setting {
-        Setting::Stands => Ok(out.push_str("ok\n")?),
-        Setting::Buffer { name, pages } => make_buffer(alloc, name, pages, harness, out),
-        Setting::Raise { point } => {
+        SetupLine::AlreadySet => Ok(out.push_str("ok\n")?),
+        SetupLine::Buffer { name, pages } => make_buffer(alloc, name, pages, harness, out),
+        SetupLine::Raise { point } => {
             let point = point_named(names, &point).ok_or(LineFault::Bad)?;
-            laws::turns();
+            laws::seat_raises();
             let now = harness.timelines.raise(&mut harness.seat, point);
             Ok(write_number(out, names, point.timeline, now)?)
         }

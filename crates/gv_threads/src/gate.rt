@@ -1,10 +1,10 @@
-//! How long a request waits.
+//! After how many looks a request that waits is given up.
 ghost use Rattle.std.specs.Prelude.{◌≡◌, ◌≤◌, ◌↔◌};
 
 use gv_queues::{Gate, Turn};
 use gv_sync::Lacking;
 
-/// Gives a request up when so many looks of it have lacked.
+/// Gives a request up after this many looks at a wait that was not reached.
 #[derive(Drop)]
 pub struct TurnLimit {
     turns: u64,

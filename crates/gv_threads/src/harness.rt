@@ -1,13 +1,13 @@
 //! What a threads script runs on.
 use gv_sync::{Seat, Timelines};
-use gv_text::Names;
+use gv_text::BufferNames;
 use gv_vm::Vm;
 
 /// What a script runs on: an address space, the buffers that it has declared, and timelines with their first seat. The address
 /// space has to be closed.
 pub struct Harness {
     pub vm: Vm,
-    pub buffers: Names,
+    pub buffers: BufferNames,
     pub timelines: Timelines,
     pub seat: Seat,
 }

@@ -38,7 +38,7 @@ fn ask(
 {
     match question {
         Line::Value { name } => {
-            let timeline = names.place_of(name).ok_or(LineFault::Bad)?;
+            let timeline = names.index_of(name).ok_or(LineFault::Bad)?;
             let number = harness.timelines.value(&mut harness.seat, timeline);
             Ok(write_number(out, names, timeline, number)?)
         }

@@ -3,15 +3,15 @@ ghost use Rattle.std.specs.Prelude.{◌≡◌, ◌≢◌, ◌++◌, ◌∷◌, [
 ghost use Rattle.std.specs.List.{All};
 ghost use Rattle.gv_sync.specs.Seats.{most_timelines};
 ghost use Rattle.gv_lines.specs.Clause.{queue_asked};
-ghost use Rattle.gv_threads.specs.Naming.{HasBuffer, IsFirstBad, MayBePut, NamesNone};
+ghost use Rattle.gv_threads.specs.Naming.{HasBuffer, IsFirstBad, MayBePut, NamesUndeclared};
 ghost use Rattle.gv_threads.specs.Parts.{unnumbered};
-ghost use Rattle.gv_threads.specs.Standing.{AreTimed};
+ghost use Rattle.gv_threads.specs.ReadSoFar.{AreTimed};
 ghost use Rattle.gv_threads.specs.Running.{AreNamed, IsNamed};
 ghost use Rattle.gv_threads.specs.Script.{IsFor, IsOfLine};
 
 use crate::script::ThreadsScript;
 use gv_lines::{Clause, ClauseList, Line};
-use gv_text::{LineFault, Names, ScriptFault, TimelineNames, asked_by, point_named};
+use gv_text::{BufferNames, LineFault, ScriptFault, TimelineNames, asked_by, point_named};
 use gv_types::Request;
 use std::alloc::Global;
 
@@ -22,8 +22,8 @@ pub fn queue_asked(timelines: &TimelineNames, clauses: &ClauseList<'_>) -> Optio
     ensures none { IfNone result (¬ AreTimed timelines.now.names clauses.now) }
 {
     let mut asked = None;
-    let mut left = clauses.again();
-    while let Some(clause) = left.take() {
+    let mut remaining = clauses.again();
+    while let Some(clause) = remaining.take() {
         match clause {
             Clause::Wait { point } | Clause::Signal { point } => {
                 point_named(timelines, &point)?;
@@ -52,12 +52,12 @@ impl ThreadsScript<'_> {
     pub fn requests_named(
         &self,
         alloc: Global,
-        buffers: &Names,
+        buffers: &BufferNames,
     ) -> Result<Vec<(u64, Request)>, ScriptFault>
         ensures requests { IfOk result (λ requests. All (IsFor self.now.queues most_timelines) requests.items) }
         ensures named { IfOk result (λ requests.
             AreNamed buffers.now.entries self.now.timelines (unnumbered self.now.requests) requests.items) }
-        ensures bad_line { (line : ℕ) → result ≡ Err (ScriptFault.BadLine line) → NamesNone buffers.now.entries self.now line }
+        ensures bad_line { (line : ℕ) → result ≡ Err (ScriptFault.BadLine line) → NamesUndeclared buffers.now.entries self.now line }
         ensures ends { IsOfLine result }
     {
         let mut requests = Vec::new(alloc);
@@ -86,7 +86,7 @@ impl ThreadsScript<'_> {
     fn request_for(
         &self,
         alloc: Global,
-        buffers: &Names,
+        buffers: &BufferNames,
         clauses: &ClauseList<'_>,
     ) -> Result<(u64, Request), LineFault>
         ensures fits { IfOk result (IsFor self.now.queues most_timelines) }
@@ -113,7 +113,7 @@ impl ThreadsScript<'_> {
     }
 
     /// That each buffer which the last part names is declared.
-    fn check_questions(&self, buffers: &Names) -> Result<(), ScriptFault>
+    fn check_questions(&self, buffers: &BufferNames) -> Result<(), ScriptFault>
         ensures bad_line { (line : ℕ) → result ≡ Err (ScriptFault.BadLine line)
             → IsFirstBad (HasBuffer buffers.now.entries) self.now.questions line }
         ensures ends { IsOfLine result }

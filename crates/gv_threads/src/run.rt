@@ -11,10 +11,10 @@ ghost use Rattle.gv_queues.specs.Ending.{IsOfQueueBelow, IsUntold};
 ghost use Rattle.gv_lines.specs.declared.line.Line.{Line as TheLine};
 ghost use Rattle.gv_text.specs.Reading.{TakesFew, most_read};
 ghost use Rattle.gv_queues.specs.declared.finishing.QueueEnd.{QueueEnd as TheEnd};
-ghost use Rattle.gv_threads.specs.Ending.{HasNotBegun, RunsAs, end_lines};
+ghost use Rattle.gv_threads.specs.Ending.{HasNotBegun, EndsAs, end_lines};
 ghost use Rattle.gv_threads.specs.Parts.{IsAsked, Keeps, unnumbered};
-ghost use Rattle.gv_threads.specs.Standing.{IsBadLine};
-ghost use Rattle.gv_threads.specs.Running.{AreAnswered, IsFirst, IsServed, IsTextOf, IsThreadsRun, ready_of};
+ghost use Rattle.gv_threads.specs.ReadSoFar.{IsBadLine};
+ghost use Rattle.gv_threads.specs.Running.{AreAnswered, IsFirst, IsRestOfRun, IsTextOf, IsThreadsRun, ready_of};
 
 use crate::ends::write_ends;
 use crate::fault::ThreadsFault;
@@ -24,7 +24,7 @@ use crate::script::ThreadsScript;
 use crate::why::tell_bad_line;
 use gv_queues::{PutAll, QueueEnd, Queues, QueuesFault};
 use gv_sync::{MAX_TIMELINES, Timelines};
-use gv_text::{Names, ScriptFault, Sink, Source, read_script};
+use gv_text::{BufferNames, ScriptFault, Sink, Source, read_script};
 use gv_types::Request;
 use gv_vm::Vm;
 use std::alloc::Global;
@@ -68,7 +68,7 @@ pub fn run_threads<R: Threads + Wait + Sync, S: Source, K: Sink>(
     // A bad line is the first that may not stand where it does, unless each may.
     ensures bad_line { (line : ℕ) → result ≡ Err (ThreadsFault.Script (ScriptFault.BadLine line)) → (script : List ℕ)
         × IfSome (S.remaining reader.old) (λ bytes. script ≡ bytes) × IsBadLine script terms.queues line }
-    ensures ends { RunsAs (S.failed reader.old) (S.failed reader.new) (K.failed writer.old) (K.failed writer.new)
+    ensures ends { EndsAs (S.failed reader.old) (S.failed reader.new) (K.failed writer.old) (K.failed writer.new)
         terms.queues result }
     ensures silent { IfErr result (λ fault. HasNotBegun fault → writer.new ≡ writer.old) }
     // One byte more than the longest script has is taken at most, in as many reads.
@@ -96,7 +96,7 @@ pub fn run_threads_explained<R: Threads + Wait + Sync, S: Source, K: Sink>(
     // A bad line is the first that may not stand where it does, unless each may.
     ensures bad_line { (line : ℕ) → result ≡ Err (ThreadsFault.Script (ScriptFault.BadLine line)) → (script : List ℕ)
         × IfSome (S.remaining reader.old) (λ bytes. script ≡ bytes) × IsBadLine script terms.queues line }
-    ensures ends { RunsAs (S.failed reader.old) (S.failed reader.new) (K.failed writer.old) (K.failed writer.new)
+    ensures ends { EndsAs (S.failed reader.old) (S.failed reader.new) (K.failed writer.old) (K.failed writer.new)
         terms.queues result }
     ensures silent { IfErr result (λ fault. HasNotBegun fault → writer.new ≡ writer.old) }
     // One byte more than the longest script has is taken at most, in as many reads.
@@ -119,7 +119,7 @@ pub fn run_threads_explained<R: Threads + Wait + Sync, S: Source, K: Sink>(
         Ok(vm) => {
             let harness = Harness {
                 vm,
-                buffers: Names::new(alloc),
+                buffers: BufferNames::new(alloc),
                 timelines,
                 seat,
             };
@@ -155,7 +155,7 @@ fn run_on<R: Threads + Wait + Sync, K: Sink>(
         × Appends (K.written writer.old) (K.written writer.new) text) }
     // The reader has nothing to do with it.
     ensures ends { (read : Bool)
-        → RunsAs read read (K.failed writer.old) (K.failed writer.new) run.entry.terms.queues result }
+        → EndsAs read read (K.failed writer.old) (K.failed writer.new) run.entry.terms.queues result }
     ensures begun { IfErr result (λ fault. HasNotBegun fault → ⊥) }
 {
     let alloc = *why.allocator();
@@ -173,7 +173,7 @@ fn run_on<R: Threads + Wait + Sync, K: Sink>(
                 terms,
                 text,
             };
-            serve(rt, alloc, run, requests, writer)
+            run_requests(rt, alloc, run, requests, writer)
         }
         Err(fault) => {
             tell_bad_line(why, &fault, &script, &harness.buffers, text);
@@ -184,7 +184,7 @@ fn run_on<R: Threads + Wait + Sync, K: Sink>(
 }
 
 /// Puts the requests on running queues, writes what is written behind them, and closes the address space.
-fn serve<R: Threads + Wait + Sync, K: Sink>(
+fn run_requests<R: Threads + Wait + Sync, K: Sink>(
     rt: &R,
     alloc: Global,
     run: Run<'_>,
@@ -200,11 +200,11 @@ fn serve<R: Threads + Wait + Sync, K: Sink>(
     requires untold { IsUntold run.harness.vm }
     requires depth { IsFromOneTo most_waiting run.script.depth }
     ensures served { OnOk result ((text : List ℕ)
-        × IsServed (ready_of run.entry.harness) run.entry.script.timelines requests.items
+        × IsRestOfRun (ready_of run.entry.harness) run.entry.script.timelines requests.items
         (unnumbered run.entry.script.questions) run.entry.terms.queues text
         × Appends (K.written writer.old) (K.written writer.new) text) }
     ensures ends { (read : Bool)
-        → RunsAs read read (K.failed writer.old) (K.failed writer.new) run.entry.terms.queues result }
+        → EndsAs read read (K.failed writer.old) (K.failed writer.new) run.entry.terms.queues result }
     ensures begun { IfErr result (λ fault. HasNotBegun fault → ⊥) }
 {
     let Run {
@@ -256,7 +256,7 @@ fn end<K: Sink>(
         (unnumbered script.now.questions) last harness.new.seat
         × Appends (K.written writer.old) (K.written writer.new) (end_lines ends.items ++ last)) }
     ensures ran { IfErr ran (λ fault. result ≡ Err (ThreadsFault.Queues fault)) }
-    ensures ends { (read : Bool) → RunsAs read read (K.failed writer.old) (K.failed writer.new) script.now.queues result }
+    ensures ends { (read : Bool) → EndsAs read read (K.failed writer.old) (K.failed writer.new) script.now.queues result }
     ensures begun { IfErr result (λ fault. HasNotBegun fault → ⊥) }
 {
     let ends = match ran {

@@ -5,15 +5,15 @@ ghost use Rattle.gv_vm.specs.Outcomes.{queues};
 ghost use Rattle.gv_text.specs.Reading.{script_limit};
 ghost use Rattle.gv_lines.specs.declared.line.Line.{Line as TheLine};
 ghost use Rattle.gv_threads.specs.Parts.{AreLinesOf, Keeps, areas_in, last_of, limits_in, settings_in, timelines_in, unnumbered};
-ghost use Rattle.gv_threads.specs.Standing.{MayAsk, MayFollow, MaySet, MayStand, MayStandAll, MayStandText, StopsReading, standing_behind, standing_of, stages_in};
+ghost use Rattle.gv_threads.specs.ReadSoFar.{MayAsk, MayFollow, MaySet, MayStand, MayStandAll, MayStandText, StopsReading, read_after, read_so_far, stages_in};
 ghost use Rattle.gv_threads.specs.Reading.{Adds, IsKept};
-ghost use Rattle.gv_threads.specs.declared.setting.Setting.{Setting as TheSetting};
+ghost use Rattle.gv_threads.specs.declared.setting.SetupLine.{SetupLine as TheSetting};
 ghost use Rattle.gv_threads.specs.Script.{IsOfLine, most_waiting};
 
 use crate::requests::queue_asked;
-use crate::setting::Setting;
+use crate::setting::SetupLine;
 use gv_lines::{ClauseList, Line, Slip, parse_line, split_once};
-use gv_text::{LineFault, ScriptFault, Stage, TimelineNames, tell_why};
+use gv_text::{LineFault, ScriptFault, Stage, TimelineNames, write_why};
 use gv_types::{Bounds, Limits};
 use gv_vm::QUEUES;
 use std::alloc::Global;
@@ -35,7 +35,7 @@ pub enum Part {
 /// other line was read once, and stands with its number.
 #[derive(Drop)]
 pub struct ThreadsScript<'a> {
-    pub(crate) settings: Vec<(u64, Setting)>,
+    pub(crate) settings: Vec<(u64, SetupLine)>,
     pub(crate) requests: Vec<(u64, ClauseList<'a>)>,
     pub(crate) questions: Vec<(u64, Line<'a>)>,
     pub(crate) timelines: TimelineNames,
@@ -66,7 +66,7 @@ impl<'a> Model for ThreadsScript<'a> {
       settings = s.settings.items;
       requests = s.requests.items;
       questions = s.questions.items;
-      whole = s.has_memory;
+      has_memory = s.has_memory;
     } };
 
     ghost invariant = { λ s. IsRead (read_state s.timelines.names s.queues s.depth) };
@@ -76,7 +76,7 @@ impl<'a> ThreadsScript<'a> {
     fn new(alloc: Global, count: u64) -> Self
         requires { IsFromOneTo queues count }
         ensures queues { result.queues ≡ count }
-        ensures standing { standing_of result ≡ standing_behind [] }
+        ensures so_far { read_so_far result ≡ read_after [] }
         ensures none { Keeps [] result }
     {
         ThreadsScript {
@@ -119,14 +119,14 @@ impl<'a> ThreadsScript<'a> {
         while let Some((line, after)) = split_once(rest, b'\n') {
             let stage = script.stage;
             if let Err(fault) = script.read_line(number, line) {
-                tell_why(why, &script.why_not_read(alloc, stage, line));
+                write_why(why, &script.why_not_read(alloc, stage, line));
                 return Err(fault.at(number));
             }
             rest = after;
             number += 1;
         }
         if !rest.is_empty() {
-            tell_why(why, &Slip::no_line_end(rest.len()));
+            write_why(why, &Slip::no_line_end(rest.len()));
             return Err(ScriptFault::BadLine { line: number });
         }
         if !script.has_memory {
@@ -139,7 +139,7 @@ impl<'a> ThreadsScript<'a> {
     fn read_line(&mut self, number: u64, text: &'a [u8]) -> Result<(), LineFault>
         ensures queues { self.new.queues ≡ self.old.queues }
         ensures adds { OnOk result (Adds text.now self.old self.new) }
-        ensures bad { result ≡ Err LineFault.Bad → ¬ MayStandText self.old.queues (standing_of self.old) text.now }
+        ensures bad { result ≡ Err LineFault.Bad → ¬ MayStandText self.old.queues (read_so_far self.old) text.now }
     {
         let line = parse_line(text).ok_or(LineFault::Bad)?;
         if !self.keep_line(number, line)? {
@@ -152,7 +152,7 @@ impl<'a> ThreadsScript<'a> {
     fn keep_line(&mut self, number: u64, line: Line<'a>) -> Result<bool, LineFault>
         ensures queues { self.new.queues ≡ self.old.queues }
         ensures kept { IfOk result (IsKept line.entry self.old self.new) }
-        ensures bad { result ≡ Err LineFault.Bad → ¬ MayStand self.old.queues (standing_of self.old) line.entry }
+        ensures bad { result ≡ Err LineFault.Bad → ¬ MayStand self.old.queues (read_so_far self.old) line.entry }
     {
         match line {
             Line::Silent => Ok(true),
@@ -163,7 +163,7 @@ impl<'a> ThreadsScript<'a> {
             Line::Tables => self.keep_question(number, Line::Tables),
             Line::Journal => self.keep_question(number, Line::Journal),
             Line::Value { name } => {
-                self.timelines.place_of(&name).ok_or(LineFault::Bad)?;
+                self.timelines.index_of(&name).ok_or(LineFault::Bad)?;
                 self.keep_question(number, Line::Value { name })
             }
             Line::Told { queue } => {
@@ -187,9 +187,9 @@ impl<'a> ThreadsScript<'a> {
         }) }
         ensures added { IfOk result (λ kept. (setting : TheSetting) × (settings_in line.entry ≡ setting ∷ [])
             × (kept ≡ true → unnumbered self.new.settings ≡ unnumbered self.old.settings ++ setting ∷ [])) }
-        ensures may { OnOk result (MayFollow self.old.part Part.Settings × MaySet (standing_of self.old) line.entry) }
+        ensures may { OnOk result (MayFollow self.old.part Part.Settings × MaySet (read_so_far self.old) line.entry) }
         ensures bad { result ≡ Err LineFault.Bad
-            → ¬ (MayFollow self.old.part Part.Settings × MaySet (standing_of self.old) line.entry) }
+            → ¬ (MayFollow self.old.part Part.Settings × MaySet (read_so_far self.old) line.entry) }
         ensures queues { self.new.queues ≡ self.old.queues }
     {
         self.enter(Part::Settings)?;
@@ -200,9 +200,9 @@ impl<'a> ThreadsScript<'a> {
     fn keep_request(&mut self, number: u64, clauses: ClauseList<'a>) -> Result<bool, LineFault>
         ensures state { OnOk result
             (self.new ≡ record self.old { part = Part.Requests; depth = self.new.depth; requests = self.new.requests }) }
-        ensures may { OnOk result (MayFollow self.old.part Part.Requests × MayAsk self.old.queues (standing_of self.old) clauses.entry) }
+        ensures may { OnOk result (MayFollow self.old.part Part.Requests × MayAsk self.old.queues (read_so_far self.old) clauses.entry) }
         ensures bad { result ≡ Err LineFault.Bad
-            → ¬ (MayFollow self.old.part Part.Requests × MayAsk self.old.queues (standing_of self.old) clauses.entry) }
+            → ¬ (MayFollow self.old.part Part.Requests × MayAsk self.old.queues (read_so_far self.old) clauses.entry) }
         ensures added { IfOk result (λ kept. kept ≡ true
             → unnumbered self.new.requests ≡ unnumbered self.old.requests ++ clauses.entry ∷ []) }
         ensures queues { self.new.queues ≡ self.old.queues }
@@ -246,8 +246,8 @@ impl<'a> ThreadsScript<'a> {
     /// Counts a request of its queue, where there is such a queue and the timelines that it names are declared.
     fn count(&mut self, clauses: &ClauseList<'_>) -> Result<(), LineFault>
         ensures counted { self.new ≡ record self.old { depth = self.new.depth } }
-        ensures may { OnOk result (MayAsk self.old.queues (standing_of self.old) clauses.now) }
-        ensures bad { result ≡ Err LineFault.Bad → ¬ MayAsk self.old.queues (standing_of self.old) clauses.now }
+        ensures may { OnOk result (MayAsk self.old.queues (read_so_far self.old) clauses.now) }
+        ensures bad { result ≡ Err LineFault.Bad → ¬ MayAsk self.old.queues (read_so_far self.old) clauses.now }
         ensures fault { IfErr result (λ fault. fault ≡ LineFault.Bad) }
     {
         let queue = queue_asked(&self.timelines, clauses).ok_or(LineFault::Bad)?;

@@ -3,7 +3,7 @@ ghost use Rattle.std.specs.Prelude.{◌≡◌, ◌++◌, ◌∷◌, [], Err, IfO
 ghost use Rattle.gv_types.specs.Limits.{IsWithin};
 ghost use Rattle.gv_session.specs.Line.{MaySetLimits, line_limits};
 ghost use Rattle.gv_threads.specs.Parts.{areas_in, areas_of, last_of, limits_in, settings_in, timelines_in};
-ghost use Rattle.gv_threads.specs.Standing.{MaySet, standing_of, stages_in};
+ghost use Rattle.gv_threads.specs.ReadSoFar.{MaySet, read_so_far, stages_in};
 
 use crate::script::ThreadsScript;
 use gv_lines::{Line, Name, NamedPoint};
@@ -12,16 +12,16 @@ use gv_types::{Bounds, Limits, MAX_TOLD};
 
 /// What a line of the first part does when the script begins.
 #[derive(Drop)]
-pub enum Setting {
+pub enum SetupLine {
     /// A setting or a timeline, which stands as soon as it is read.
-    Stands,
+    AlreadySet,
     Buffer { name: Name, pages: u64 },
     Raise { point: NamedPoint },
 }
 
 impl<'a> ThreadsScript<'a> {
     /// Reads a line of the first part: settings and timelines stand from here on.
-    pub fn set(&mut self, line: Line<'a>) -> Result<Setting, LineFault>
+    pub fn set(&mut self, line: Line<'a>) -> Result<SetupLine, LineFault>
         ensures done { IfOk result (λ setting. settings_in line.entry ≡ setting ∷ []) }
         ensures state { OnOk result (self.new ≡ record self.old {
           stage = last_of self.old.stage (stages_in line.entry);
@@ -29,8 +29,8 @@ impl<'a> ThreadsScript<'a> {
           limits = last_of self.old.limits (limits_in line.entry);
           timelines = self.old.timelines ++ timelines_in line.entry;
         }) }
-        ensures may { OnOk result (MaySet (standing_of self.old) line.entry) }
-        ensures bad { result ≡ Err LineFault.Bad → ¬ MaySet (standing_of self.old) line.entry }
+        ensures may { OnOk result (MaySet (read_so_far self.old) line.entry) }
+        ensures bad { result ≡ Err LineFault.Bad → ¬ MaySet (read_so_far self.old) line.entry }
         ensures queues { self.new.queues ≡ self.old.queues }
     {
         let stage = self.stage;
@@ -54,20 +54,20 @@ impl<'a> ThreadsScript<'a> {
             } => self.set_limits(stage, buffers, mappings, items),
             Line::Timeline { name } => {
                 self.timelines.add(name)?;
-                Ok(Setting::Stands)
+                Ok(SetupLine::AlreadySet)
             }
-            Line::Buffer { name, pages } => Ok(Setting::Buffer { name, pages }),
+            Line::Buffer { name, pages } => Ok(SetupLine::Buffer { name, pages }),
             Line::Raise { point } => {
                 point_named(&self.timelines, &point).ok_or(LineFault::Bad)?;
-                Ok(Setting::Raise { point })
+                Ok(SetupLine::Raise { point })
             }
             _ => Err(LineFault::Bad),
         }
     }
 
     /// Sets the bounds, where there are such bounds and no other line stands before.
-    fn set_bounds(&mut self, stage: Stage, bounds: Option<Bounds>) -> Result<Setting, LineFault>
-        ensures done { IfOk result (λ setting. setting ≡ Setting.Stands) }
+    fn set_bounds(&mut self, stage: Stage, bounds: Option<Bounds>) -> Result<SetupLine, LineFault>
+        ensures done { IfOk result (λ setting. setting ≡ SetupLine.AlreadySet) }
         ensures state { OnOk result (self.new
             ≡ record self.old { stage = Stage.Bounded; bounds = last_of self.old.bounds (areas_of bounds) }) }
         ensures may { OnOk result ((stage ≡ Stage.Fresh) × IsSome bounds) }
@@ -79,7 +79,7 @@ impl<'a> ThreadsScript<'a> {
         }
         self.stage = Stage::Bounded;
         self.bounds = bounds.ok_or(LineFault::Bad)?;
-        Ok(Setting::Stands)
+        Ok(SetupLine::AlreadySet)
     }
 
     /// Sets the limits, where there are such limits and no line stands before but one of bounds.
@@ -89,8 +89,8 @@ impl<'a> ThreadsScript<'a> {
         buffers: u64,
         mappings: u64,
         items: u64,
-    ) -> Result<Setting, LineFault>
-        ensures done { IfOk result (λ setting. setting ≡ Setting.Stands) }
+    ) -> Result<SetupLine, LineFault>
+        ensures done { IfOk result (λ setting. setting ≡ SetupLine.AlreadySet) }
         ensures state { OnOk result (self.new ≡ record self.old { limits = line_limits buffers mappings items }) }
         ensures may { OnOk result (MaySetLimits stage × IsWithin (line_limits buffers mappings items)) }
         ensures bad { IsErr result → ¬ (MaySetLimits stage × IsWithin (line_limits buffers mappings items)) }
@@ -100,6 +100,6 @@ impl<'a> ThreadsScript<'a> {
             return Err(LineFault::Bad);
         }
         self.limits = Limits::new(buffers, mappings, items, MAX_TOLD).ok_or(LineFault::Bad)?;
-        Ok(Setting::Stands)
+        Ok(SetupLine::AlreadySet)
     }
 }

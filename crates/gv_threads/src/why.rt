@@ -1,18 +1,18 @@
 //! Why a line may not stand where it stands in a threads script.
 use crate::script::{Part, ThreadsScript};
 use gv_lines::{
-    Found, Line, NumberSlip, Place, Reason, Slip, explain, no_such_line, parse_line, queue_in,
-    split_once, word_at,
+    Found, Line, Misplacement, NumberSlip, Reason, Slip, explain, no_such_line, parse_line,
+    queue_in, split_once, word_at,
 };
 use gv_text::{
-    Declared, Names, ScriptFault, Stage, at_first_word, tell_why, why_not_named, why_not_set,
+    BufferNames, Declared, ScriptFault, Stage, at_first_word, why_not_named, why_not_set, write_why,
 };
 use std::alloc::Global;
 
 /// Where the line of this number is bad for the names of buffers, once those are known.
 fn why_not_begun<'a>(
     script: &ThreadsScript<'_>,
-    buffers: &Names,
+    buffers: &BufferNames,
     text: &'a [u8],
     number: u64,
 ) -> Slip<'a> {
@@ -29,11 +29,11 @@ pub fn tell_bad_line(
     why: &mut String,
     fault: &ScriptFault,
     script: &ThreadsScript<'_>,
-    buffers: &Names,
+    buffers: &BufferNames,
     text: &[u8],
 ) {
     if let ScriptFault::BadLine { line } = fault {
-        tell_why(why, &why_not_begun(script, buffers, text, *line));
+        write_why(why, &why_not_begun(script, buffers, text, *line));
     }
 }
 
@@ -77,15 +77,15 @@ impl ThreadsScript<'_> {
     /// That no threads script has such a line, or not in the part that is read.
     fn why_not_in_part<'l>(&self, text: &'l [u8]) -> Option<Slip<'l>> {
         let word = word_at(text, 0)?.word;
-        let place = match parse_line(text)? {
+        let misplacement = match parse_line(text)? {
             Line::Space { .. }
             | Line::Limits { .. }
             | Line::Buffer { .. }
             | Line::Timeline { .. }
-            | Line::Raise { .. } => (self.part != Part::Settings).then_some(Place::FirstPart {
-                word,
-            }),
-            Line::Bind { .. } => (self.part == Part::Questions).then_some(Place::SecondPart),
+            | Line::Raise { .. } => (self.part != Part::Settings).then_some(
+                Misplacement::FirstPart { word },
+            ),
+            Line::Bind { .. } => (self.part == Part::Questions).then_some(Misplacement::SecondPart),
             Line::Silent
             | Line::Uses { .. }
             | Line::Map
@@ -94,9 +94,9 @@ impl ThreadsScript<'_> {
             | Line::Journal
             | Line::Value { .. }
             | Line::Told { .. } => None,
-            _ => Some(Place::NotInThreads { word }),
+            _ => Some(Misplacement::NotInThreads { word }),
         };
-        Some(at_first_word(place?))
+        Some(at_first_word(misplacement?))
     }
 
     /// That the queue which a line names is not there.

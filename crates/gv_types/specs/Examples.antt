@@ -1,4 +1,4 @@
--- Worked examples of the words of a mapping.
+-- Worked examples of mappings packed in 32 bytes.
 use Rattle.std.specs.Prelude.{◌≡◌, true, false}
 use Rattle.gv_types.specs.PageRange.{span}
 use Rattle.gv_types.specs.Mapping.{buffer_id}
@@ -15,10 +15,10 @@ abbrev pub many_zeros : Mapping
 many_zeros = record { range = span 1 4294967297; backing = Zero; flags = record { read_only = false } }
 
 abbrev pub BufferIsPacked : Type 0
-BufferIsPacked = words_of three_pages ≡ record { head = 2621440; place = 31; generation = 9; low = 3; index = 2 }
+BufferIsPacked = words_of three_pages ≡ record { head = 2621440; tagged_page = 31; generation = 9; low = 3; index = 2 }
 
 abbrev pub ZerosArePacked : Type 0
-ZerosArePacked = words_of many_zeros ≡ record { head = 524289; place = 0; generation = 0; low = 1; index = 0 }
+ZerosArePacked = words_of many_zeros ≡ record { head = 524289; tagged_page = 0; generation = 0; low = 1; index = 0 }
 
 -- both come back
 abbrev pub BothComeBack : Type 0
@@ -26,4 +26,4 @@ BothComeBack = (unpacked (words_of three_pages) ≡ three_pages) × (unpacked (w
 
 -- zeros with a page are the words of no mapping
 abbrev pub ZerosHaveNoPage : Type 0
-ZerosHaveNoPage = ¬ (IsPacked (record { head = 524288; place = 4; generation = 0; low = 1; index = 0 }))
+ZerosHaveNoPage = ¬ (IsPacked (record { head = 524288; tagged_page = 4; generation = 0; low = 1; index = 0 }))

@@ -1,4 +1,4 @@
--- What a mapping says of a page, and what is left of it between two pages.
+-- Ids of buffers; what a mapping gives a page (`part`), and its part between two pages (`clip`).
 use Rattle.std.specs.Prelude.{ℕ, Bool, false, ◌&&◌, ◌==◌, ◌+◌, ◌-◌, ◌≤◌, max, min, if◌then◌else◌, nat_lt, Option, Some, None}
 use Rattle.gv_types.specs.Page.{backing_pages}
 use Rattle.gv_types.specs.PageRange.{span, end_of, IsInSpace}
@@ -45,7 +45,7 @@ clip low high m =
     let end = min high (end_of m.range) in
     if nat_lt first end then Some (piece m first (end - first)) else None
 
--- the page of the buffer past the last one, which no sum of pages passes
+-- a mapping of `count` pages ends at the page `backing_pages` of its buffer, or before
 abbrev pub HasSmallPages : Backing → ℕ → Type 0
 HasSmallPages (Buffer id page) count = page + count ≤ backing_pages
 HasSmallPages Zero count = Unit {0}

@@ -12,13 +12,13 @@ use Rattle.gv_types.specs.declared.packed.Packed.TheInside.{Inside}
 abbrev pub unpacked_range : Inside → PageRangeState
 unpacked_range p = span (p.head / 2 ^ 19) (p.head % 2 ^ 19 * 2 ^ 32 + p.low)
 
--- a buffer where the place is odd, and its page in fours
+-- a buffer where the tagged_page is odd, and its page in fours
 abbrev pub unpacked_backing : Inside → Backing
-unpacked_backing p = if p.place % 2 == 1 then Buffer (buffer_id p.index p.generation) (p.place / 4) else Zero
+unpacked_backing p = if p.tagged_page % 2 == 1 then Buffer (buffer_id p.index p.generation) (p.tagged_page / 4) else Zero
 
--- read-only by the second bit of the place
+-- read-only by the second bit of the tagged_page
 abbrev pub unpacked_flags : Inside → Flags
-unpacked_flags p = record { read_only = p.place / 2 % 2 == 1 }
+unpacked_flags p = record { read_only = p.tagged_page / 2 % 2 == 1 }
 
 -- the mapping of the words
 abbrev pub unpacked : Inside → Mapping
@@ -26,8 +26,8 @@ unpacked p = record { range = unpacked_range p; backing = unpacked_backing p; fl
 
 -- the words with this range and the rest as it is given
 abbrev pub words_with : PageRangeState → ℕ → ℕ → ℕ → Inside
-words_with range place generation index =
-    record { head = range.first * 2 ^ 19 + range.count / 2 ^ 32; place = place; generation = generation; low = range.count % 2 ^ 32; index = index }
+words_with range tagged_page generation index =
+    record { head = range.first * 2 ^ 19 + range.count / 2 ^ 32; tagged_page = tagged_page; generation = generation; low = range.count % 2 ^ 32; index = index }
 
 -- the words of a range, a backing, and 2 where it is read-only
 abbrev pub words : PageRangeState → Backing → ℕ → Inside

@@ -1,4 +1,4 @@
--- What contracts see of a `PageRange` (`PageRangeState`): a run of pages, and what it covers.
+-- What contracts see of a `PageRange` (`PageRangeState`): a run of pages, and what it covers. `span first count` makes one.
 use Rattle.std.specs.Prelude.{ℕ, ◌+◌, ◌<◌, ◌≤◌, Bool, ◌&&◌, nat_lt, nat_le}
 use Rattle.gv_types.specs.Page.{PAGES}
 

@@ -1,4 +1,4 @@
--- Which requests speak of timelines that there are.
+-- A request fits if every timeline that it names is below the count.
 use Rattle.std.specs.Prelude.{ℕ, ◌<◌}
 use Rattle.std.specs.List.{All}
 use Rattle.gv_types.specs.declared.request.Request.{Request}

@@ -19,15 +19,15 @@ impl Model for Generation {
 
     ghost Value = { ℕ };
 
-    ghost use Rattle.gv_types.specs.Generation.{whole, AreHalves, halves_of, halves_of-whole};
+    ghost use Rattle.gv_types.specs.Generation.{joined, AreHalves, halves_of, halves_of-joined};
 
-    ghost view = { whole };
+    ghost view = { joined };
 
     ghost invariant = { AreHalves };
 
     ghost inverse = { halves_of };
 
-    ghost inverse_ok = { halves_of-whole };
+    ghost inverse_ok = { halves_of-joined };
 }
 
 impl Generation {

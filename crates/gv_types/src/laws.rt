@@ -1,4 +1,4 @@
-//! What the definitions say of worked examples.
+//! Worked examples, proved: two mappings packed in 32 bytes, and back.
 ghost use Rattle.gv_types.specs.Examples.{BufferIsPacked, ZerosArePacked, BothComeBack, ZerosHaveNoPage};
 
 /// Each worked example holds.

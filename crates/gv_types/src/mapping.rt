@@ -7,7 +7,7 @@ use crate::page_range::PageRange;
 /// The greatest number of pages of a buffer.
 pub const BUFFER_PAGES: u64 = 1 << 36;
 
-/// A buffer: its place in the table of buffers, which a later buffer may take again, and how many buffers were
+/// A buffer: its position in the table of buffers, which a later buffer may take again, and how many buffers were
 /// made before it, which no other buffer has.
 #[derive(Clone, Copy, Debug, PartialEq, Eq)]
 pub struct BufferId {
@@ -65,7 +65,7 @@ impl Default for Mapping {
 impl BufferId {
     ghost use Rattle.gv_types.specs.Mapping.{buffer_id};
 
-    /// The buffer at a place of the table that was made after `generation` others.
+    /// The buffer at a position of the table that was made after `generation` others.
     pub fn new(index: u32, generation: u64) -> BufferId
         ensures { result ≡ buffer_id index generation }
     {

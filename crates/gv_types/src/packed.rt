@@ -21,13 +21,13 @@ const LOW_BITS: u32 = 32;
 
 const BELOW_LOW: u64 = (1 << LOW_BITS) - 1;
 
-/// So many bits of `place` are below the page.
-const PLACE_BITS: u32 = 2;
+/// So many bits of `tagged_page` are below the page.
+const TAG_BITS: u32 = 2;
 
-/// The bit of `place` where a buffer stands behind the pages.
+/// The bit of `tagged_page` where a buffer stands behind the pages.
 const BUFFER: u64 = 1;
 
-/// The bit of `place` where the pages are read-only.
+/// The bit of `tagged_page` where the pages are read-only.
 const READ_ONLY: u64 = 2;
 
 /// A mapping whose pages are numbers that fit, in 32 bytes: contracts see the mapping itself.
@@ -36,12 +36,12 @@ pub struct Packed {
     /// The first page, and below it what the count has above 32 bits: so heads are in the order of the pages.
     head: u64,
     /// The page of the buffer, and below it two bits: read-only, and whether a buffer stands behind the pages.
-    place: u64,
+    tagged_page: u64,
     /// How many buffers were made before the buffer.
     generation: u64,
     /// The lower 32 bits of the count.
     low: u32,
-    /// The buffer's place in the table of buffers.
+    /// The buffer's position in the table of buffers.
     index: u32,
 }
 
@@ -72,7 +72,7 @@ impl Default for Packed {
     fn default() -> Packed {
         Packed {
             head: 0,
-            place: 0,
+            tagged_page: 0,
             generation: 0,
             low: 1,
             index: 0,
@@ -98,14 +98,14 @@ impl Packed {
         match mapping.backing {
             Backing::Buffer { id, page } => Packed {
                 head,
-                place: (page << PLACE_BITS) + read_only + BUFFER,
+                tagged_page: (page << TAG_BITS) + read_only + BUFFER,
                 generation: id.generation.get(),
                 low,
                 index: id.index,
             },
             Backing::Zero => Packed {
                 head,
-                place: read_only,
+                tagged_page: read_only,
                 generation: 0,
                 low,
                 index: 0,
@@ -182,10 +182,10 @@ impl Packed {
     pub fn backing(&self) -> Backing
         ensures { result ≡ self.now.backing }
     {
-        if self.place & BUFFER == BUFFER {
+        if self.tagged_page & BUFFER == BUFFER {
             Backing::Buffer {
                 id: BufferId::new(self.index, self.generation),
-                page: self.place >> PLACE_BITS,
+                page: self.tagged_page >> TAG_BITS,
             }
         } else {
             Backing::Zero
@@ -198,7 +198,7 @@ impl Packed {
         ensures { result ≡ self.now.flags }
     {
         Flags {
-            read_only: self.place / READ_ONLY & 1 == 1,
+            read_only: self.tagged_page / READ_ONLY & 1 == 1,
         }
     }
 
@@ -207,7 +207,7 @@ impl Packed {
     pub fn is_of(&self, id: BufferId) -> bool
         ensures { result ≡ is_of id self.now.backing }
     {
-        self.place & BUFFER == BUFFER
+        self.tagged_page & BUFFER == BUFFER
             && self.index == id.index
             && self.generation == id.generation.get()
     }
@@ -247,14 +247,14 @@ impl Packed {
         requires below { first + count ≤ end_of self.now.range }
         ensures { result ≡ piece self.now first count }
     {
-        let further = if self.place & BUFFER == BUFFER {
-            (first - self.first()) << PLACE_BITS
+        let further = if self.tagged_page & BUFFER == BUFFER {
+            (first - self.first()) << TAG_BITS
         } else {
             0
         };
         Packed {
             head: (first << HEAD_BITS) + (count >> LOW_BITS),
-            place: self.place + further,
+            tagged_page: self.tagged_page + further,
             generation: self.generation,
             low: (count & BELOW_LOW) as u32,
             index: self.index,

@@ -1,4 +1,4 @@
--- What items say of an address leads to a byte, and so does what lies under them.
+-- What `Vm::past` and `Vm::base_at` answer: each place has a byte, and no item is left out.
 use Rattle.std.proofs.Common.{◌≡◌, ℕ, ◌+◌, ◌-◌, ◌/◌, ◌<◌, ◌≤◌, Bool, true, false, cond, List, [], ◌∷◌, ◌++◌, length, reverse, take, drop, get_or, zero, suc, Option, Some, None, refl, ap, sym, ◌∙◌, arith}
 use Rattle.std.specs.Prelude.{IfSome}
 use Rattle.std.specs.List.{All, find, filter_map, cons_option}
@@ -14,24 +14,24 @@ use Rattle.gv_types.specs.declared.mapping.Mapping.{Mapping}
 use Rattle.gv_types.specs.declared.operation.PageOp.{PageOp}
 use Rattle.gv_ranges.specs.Edit.{undone}
 use Rattle.gv_buffers.specs.Buffers.{BuffersState, IsTable}
-use Rattle.gv_space.specs.State.{IsPlaced}
+use Rattle.gv_space.specs.State.{IsValidMapping}
 use Rattle.gv_space.specs.Undo.{OpUndoState}
 use Rattle.gv_journal.specs.Undoing.{taken_by, undone_by}
 use Rattle.gv_journal.specs.Items.{JournalState, NumberedItem, numbered, entries, next, is_withdrawn, done_by, ops_without}
 use Rattle.gv_journal.specs.History.{undos_of, kept_by, back, base, Translates, Rewinds}
-use Rattle.gv_journal.specs.Saying.{last_covering, WereLive}
+use Rattle.gv_journal.specs.Covering.{last_covering, WereLive}
 use Rattle.gv_journal.specs.Withdrawing.{item_at}
 use Rattle.gv_journal.specs.declared.item.Item.{Item}
 use Rattle.gv_journal.proofs.EntryLemmas.{item_held, entries_from}
-use Rattle.gv_vm.specs.AddressPast.{past_item, past_of}
-use Rattle.gv_vm.specs.Places.{HasBytes, place_by}
+use Rattle.gv_vm.specs.AddressPast.{effect_at, past_of}
+use Rattle.gv_vm.specs.Places.{BytesFit, place_by}
 use Rattle.gv_vm.specs.State.{VmState, IsVm}
 use Rattle.gv_vm.specs.declared.vm.past.PastItem.{PastItem}
-use Rattle.gv_vm.proofs.Bytes.{HasBytes-at}
+use Rattle.gv_vm.proofs.BytesFit.{BytesFit-at}
 
 -- what an item's last operation that covers a page puts there has bytes
 abbrev SaysBytes : Item → Type 0
-SaysBytes x = (page : ℕ) (op : PageOp) (e : Entry) → IsPage page → last_covering x.kind page ≡ Some op → own_part op page ≡ Some e → HasBytes e.backing
+SaysBytes x = (page : ℕ) (op : PageOp) (e : Entry) → IsPage page → last_covering x.kind page ≡ Some op → own_part op page ≡ Some e → BytesFit e.backing
 
 view_found : (ops older : List PageOp) (below : ℕ → Option Entry) (page : ℕ) (op : PageOp) → find (λ o. covers (range_of o) page) ops ≡ Some op →
     view_of_ops (ops ++ older) below page ≡ own_part op page
@@ -66,43 +66,43 @@ All-back P ms (item ∷ items) all kept =
     (All-undone P ms (undos_of item) all (All-front P (taken_by (undos_of item)) (kept_by items) kept))
     (All-behind P (taken_by (undos_of item)) (kept_by items) kept)
 
-all_say : (a : BoundsState) (t : BuffersState) (limit room first : ℕ) (ms : List Mapping) (items : List Item) (below : ℕ → Option Entry) → IsTable t → All (IsPlaced a t) ms →
-    All (IsPlaced a t) (kept_by items) → Translates ms (numbered first items) below → Rewinds limit room first ms items below → WereLive (numbered first items) → All SaysBytes items
-all_say a t limit room first ms [] below table placed kept translates rewinds live = All-nil SaysBytes
-all_say a t limit room first ms (item ∷ items) below table placed kept translates rewinds live =
+all_say : (a : BoundsState) (t : BuffersState) (limit room first : ℕ) (ms : List Mapping) (items : List Item) (below : ℕ → Option Entry) → IsTable t → All (IsValidMapping a t) ms →
+    All (IsValidMapping a t) (kept_by items) → Translates ms (numbered first items) below → Rewinds limit room first ms items below → WereLive (numbered first items) → All SaysBytes items
+all_say a t limit room first ms [] below table valid kept translates rewinds live = All-nil SaysBytes
+all_say a t limit room first ms (item ∷ items) below table valid kept translates rewinds live =
     let xs : List NumberedItem = numbered first (item ∷ items) in
     let older : List PageOp = ops_without (is_withdrawn xs) (numbered first items) in
     let here : SaysBytes item = λ page op e is found part.
-    HasBytes-at a t ms page e table placed
+    BytesFit-at a t ms page e table valid
     (translates page is ∙ ap (λ (b : Bool). view_of_ops (cond b [] (reverse (done_by item.kind)) ++ older) below page) live.0
     ∙ view_found (reverse (done_by item.kind)) older below page op found ∙ part) in
     All-cons SaysBytes item items here
     (all_say a t limit room first (undone_by ms (undos_of item)) items below table
-    (All-undone (IsPlaced a t) ms (undos_of item) placed (All-front (IsPlaced a t) (taken_by (undos_of item)) (kept_by items) kept))
-    (All-behind (IsPlaced a t) (taken_by (undos_of item)) (kept_by items) kept) rewinds.2 rewinds.4 live.1)
+    (All-undone (IsValidMapping a t) ms (undos_of item) valid (All-front (IsValidMapping a t) (taken_by (undos_of item)) (kept_by items) kept))
+    (All-behind (IsValidMapping a t) (taken_by (undos_of item)) (kept_by items) kept) rewinds.2 rewinds.4 live.1)
 
 pub said_bytes : (v : VmState) (n page : ℕ) (op : PageOp) → IsVm v → WereLive (entries v.journal) → v.journal.first ≤ n → n < next v.journal → IsPage page →
-    Some op ≡ option_and_then (λ x. last_covering x.kind page) (item_at v.journal n) → IfSome (own_part op page) (λ e. HasBytes e.backing)
+    Some op ≡ option_and_then (λ x. last_covering x.kind page) (item_at v.journal n) → IfSome (own_part op page) (λ e. BytesFit e.backing)
 said_bytes v n page op holds live low high is said =
     let says : All SaysBytes v.journal.items =
     all_say v.space.area v.space.buffers v.space.limits.mappings v.space.room v.journal.first v.space.mappings v.journal.items (base v.space.mappings v.journal.items)
-    holds.buffers_counted.used.buffers holds.buffers_counted.used.placed holds.buffers_counted.kept.placed holds.translates holds.rewinds live in
+    holds.buffers_counted.used.buffers holds.buffers_counted.used.valid holds.buffers_counted.kept.valid holds.translates holds.rewinds live in
     by_items v.journal.items (next v.journal - 1 - n) (omega arith) says (λ d. said ∙ ap (option_and_then (λ (x : Item). last_covering x.kind page)) (item_held v.journal n d low high))
   where
-    by_part : (o : Option Entry) → ((e : Entry) → o ≡ Some e → HasBytes e.backing) → IfSome o (λ e. HasBytes e.backing)
+    by_part : (o : Option Entry) → ((e : Entry) → o ≡ Some e → BytesFit e.backing) → IfSome o (λ e. BytesFit e.backing)
     by_part None h = tt
     by_part (Some e) h = h e refl
 
-    by_items : (items : List Item) (k : ℕ) → k < length items → All SaysBytes items → ((d : Item) → Some op ≡ last_covering (get_or items k d).kind page) → IfSome (own_part op page) (λ e. HasBytes e.backing)
+    by_items : (items : List Item) (k : ℕ) → k < length items → All SaysBytes items → ((d : Item) → Some op ≡ last_covering (get_or items k d).kind page) → IfSome (own_part op page) (λ e. BytesFit e.backing)
     by_items [] k within says found = absurd (omega arith)
     by_items (item ∷ items) k within says found =
         by_part (own_part op page) (λ e part. All-get_or SaysBytes (item ∷ items) k item within says page op e is (sym (found item)) part)
 
 -- what lies under the oldest item has bytes
-pub base_bytes : (v : VmState) (page : ℕ) (e : Entry) → IsVm v → base v.space.mappings v.journal.items page ≡ Some e → HasBytes e.backing
+pub base_bytes : (v : VmState) (page : ℕ) (e : Entry) → IsVm v → base v.space.mappings v.journal.items page ≡ Some e → BytesFit e.backing
 base_bytes v page e holds is =
-    HasBytes-at v.space.area v.space.buffers (back v.space.mappings v.journal.items (length v.journal.items)) page e holds.buffers_counted.used.buffers
-    (All-back (IsPlaced v.space.area v.space.buffers) v.space.mappings v.journal.items holds.buffers_counted.used.placed holds.buffers_counted.kept.placed) is
+    BytesFit-at v.space.area v.space.buffers (back v.space.mappings v.journal.items (length v.journal.items)) page e holds.buffers_counted.used.buffers
+    (All-back (IsValidMapping v.space.area v.space.buffers) v.space.mappings v.journal.items holds.buffers_counted.used.valid holds.buffers_counted.kept.valid) is
 
 found_covers : (ops : List PageOp) (page : ℕ) (op : PageOp) → find (λ o. covers (range_of o) page) ops ≡ Some op → covers (range_of op) page ≡ true
 found_covers [] page op is = cc
@@ -130,11 +130,11 @@ take_one_more k xs x ys is =
     ap (λ (n : ℕ). take n xs) same ∙ take_suc k xs x ys is
 
 abbrev pub saying : JournalState → ℕ → NumberedItem → Option PastItem
-saying j addr = past_item (is_withdrawn (entries j)) addr
+saying j addr = effect_at (is_withdrawn (entries j)) addr
 
 -- what an item says, by its number
 abbrev pub said_at : JournalState → ℕ → ℕ → Option PastItem
-said_at j addr n = option_and_then (λ item. past_item (is_withdrawn (entries j)) addr (record { number = n; item = item })) (item_at j n)
+said_at j addr n = option_and_then (λ item. effect_at (is_withdrawn (entries j)) addr (record { number = n; item = item })) (item_at j n)
 
 one_said : (o : Option PastItem) → cons_option o [] ≡ option_to_list o
 one_said None = refl
@@ -208,6 +208,6 @@ said_item j addr n said is = by_item (item_at j n) is
   where
     by_item : (o : Option Item) → said ≡ option_and_then (λ x. last_covering x.kind (addr / bytes_per_page)) o →
         option_map (λ op. record { entry = n; is_withdrawn = is_withdrawn (entries j) n; place = place_by (own_part op) addr }) said
-        ≡ option_and_then (λ item. past_item (is_withdrawn (entries j)) addr (record { number = n; item = item })) o
+        ≡ option_and_then (λ item. effect_at (is_withdrawn (entries j)) addr (record { number = n; item = item })) o
     by_item None h = ap (option_map (λ (op : PageOp). record { entry = n; is_withdrawn = is_withdrawn (entries j) n; place = place_by (own_part op) addr })) h
     by_item (Some item) h = ap (option_map (λ (op : PageOp). record { entry = n; is_withdrawn = is_withdrawn (entries j) n; place = place_by (own_part op) addr })) h

@@ -1,4 +1,4 @@
--- For callers: in worlds that tell the same the same events are enabled.
+-- For callers: in worlds that are alike the same events are enabled.
 use Rattle.std.proofs.Common.{◌≡◌, ℕ, ◌<◌, List, length, Option, Some, None, option_map, slice_get, refl, sym, ap, ◌∙◌, subst}
 use Rattle.std.specs.List.{All}
 use Rattle.std.proofs.lemmas.Option.{none-some, same_Some}
@@ -7,7 +7,7 @@ use Rattle.gv_types.specs.declared.request.Point.{Point}
 use Rattle.gv_types.specs.declared.request.Request.{Request}
 use Rattle.gv_journal.specs.Bare.{BareRequest, bare_request}
 use Rattle.gv_vm.specs.World.{WorldState, HandState, queue_at, next_wait}
-use Rattle.gv_vm.specs.Step.{IsQueue, Has, CanTake, CanLook, CanBind, CanGiveUp, CanPay, IsEnabled}
+use Rattle.gv_vm.specs.Step.{IsQueue, HasHand, CanTake, CanLook, CanBind, CanGiveUp, CanPay, IsEnabled}
 use Rattle.gv_vm.specs.Alike.{BareHand, bare_hand, BareQueue, AreAlikeWorlds}
 use Rattle.gv_vm.specs.declared.event.Event.TheVariants.{Put}
 use Rattle.gv_vm.proofs.AlikeVmLemmas.{AreAlikeVms-sym}
@@ -60,11 +60,11 @@ module _ (w w' : WorldState) (alike : AreAlikeWorlds w w') where
       }
 
   -- the request in hand, and that it tells the same
-  pub record HasAlike (n : ℕ) (has : Has w n) : Type 0 where
-    pub other : Has w' n
+  pub record HasAlike (n : ℕ) (has : HasHand w n) : Type 0 where
+    pub other : HasHand w' n
     pub same : bare_hand other.hand ≡ bare_hand has.hand
 
-  pub has_alike : (n : ℕ) (has : Has w n) → HasAlike n has
+  pub has_alike : (n : ℕ) (has : HasHand w n) → HasAlike n has
   has_alike n has =
       let h = some_in_hand (queue_at w' n).hand (bare_hand has.hand) (sym (hand_alike w w' alike n) ∙ ap (option_map bare_hand) has.is) in
       record { other = record { there = there n has.there; hand = h.0; is = h.1 }; same = h.2 }

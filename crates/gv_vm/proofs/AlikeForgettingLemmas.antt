@@ -12,7 +12,7 @@ use Rattle.gv_journal.specs.declared.item.ItemKind.TheVariants.{Bind, Withdrawal
 use Rattle.gv_journal.proofs.BareItemLemmas.{position-map}
 use Rattle.gv_vm.specs.Outcomes.{lifetime_told, told_to}
 use Rattle.gv_vm.specs.State.{VmState, forgotten_of, told_limit}
-use Rattle.gv_vm.specs.Forgetting.{is_told_below, held_below, forget_fault, with_forgotten}
+use Rattle.gv_vm.specs.Forgetting.{is_told_below, least_held_below, forget_fault, with_forgotten}
 use Rattle.gv_vm.specs.Alike.{AreAlikeVms}
 use Rattle.gv_vm.specs.declared.outcome.Outcome.{Outcome}
 
@@ -27,7 +27,7 @@ below_is queue to (Withdrawal of) = refl
 abbrev held_bare : ℕ → ℕ → BareJournal → Option ℕ
 held_bare queue to j = option_map (λ index. j.first + index) (position (λ item. bare_below queue to item.bind) (reverse j.items))
 
-held_is : (j : JournalState) (queue to : ℕ) → held_below j queue to ≡ held_bare queue to (bare_journal j)
+held_is : (j : JournalState) (queue to : ℕ) → least_held_below j queue to ≡ held_bare queue to (bare_journal j)
 held_is j queue to =
     ap (option_map (λ index. j.first + index))
     (position-map (λ (item : BareItem). bare_below queue to item.bind) bare_item (λ item. is_told_below queue to item.kind) (reverse j.items) (λ item. below_is queue to item.kind)
@@ -40,10 +40,10 @@ forget_by queue gone told held to =
 module _ (v v' : VmState) (alike : AreAlikeVms v v') where
   pub forget_fault_alike : (queue to : ℕ) → forget_fault v queue to ≡ forget_fault v' queue to
   forget_fault_alike queue to =
-      let held : held_below v.journal queue to ≡ held_below v'.journal queue to =
+      let held : least_held_below v.journal queue to ≡ least_held_below v'.journal queue to =
       held_is v.journal queue to ∙ ap (held_bare queue to) alike.journal ∙ sym (held_is v'.journal queue to) in
-      ap (λ (gone : List ℕ). forget_by queue gone v.told (held_below v.journal queue to) to) alike.forgotten
-      ∙ ap (λ (told : List (List Outcome)). forget_by queue v'.forgotten told (held_below v.journal queue to) to) alike.told
+      ap (λ (gone : List ℕ). forget_by queue gone v.told (least_held_below v.journal queue to) to) alike.forgotten
+      ∙ ap (λ (told : List (List Outcome)). forget_by queue v'.forgotten told (least_held_below v.journal queue to) to) alike.told
       ∙ ap (λ (o : Option ℕ). forget_by queue v'.forgotten v'.told o to) held
 
   pub forgotten_of_alike : (queue : ℕ) → forgotten_of v queue ≡ forgotten_of v' queue

@@ -1,4 +1,4 @@
--- For callers: queues that tell the same go on to tell the same when a request is put, taken, looked at or given up, and when
+-- For callers: queues that are alike stay alike when a request is put, taken, looked at or given up, and when
 -- its signals are paid.
 use Rattle.std.proofs.Common.{◌≡◌, ℕ, ◌+◌, ◌<◌, ◌≤◌, List, [], ◌∷◌, ◌++◌, map, length, get_or, Some, None, option_map, slice_get, slice_set, slice_index, arith, refl, sym, ap, ◌∙◌, subst}
 use Rattle.std.proofs.Math.ListN.{get_or-map}

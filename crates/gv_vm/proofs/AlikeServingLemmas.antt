@@ -1,4 +1,4 @@
--- For callers: the same look, the same request carried out or given up, the same signal paid and the same raise, in worlds that tell the same.
+-- For callers: the same look, the same request carried out or given up, the same signal paid and the same raise, in worlds that are alike.
 use Rattle.std.proofs.Common.{◌≡◌, ℕ, inl, inr, refl, ap, ◌∙◌, subst}
 use Rattle.std.specs.Prelude.{◌⊎◌}
 use Rattle.std.proofs.lemmas.Option.{none-some}
@@ -11,7 +11,7 @@ use Rattle.gv_vm.specs.declared.event.Reply.{Reply}
 use Rattle.gv_vm.specs.declared.event.Reply.TheVariants.{Idle, Reached, Lacking, Told, Raised, Refused}
 use Rattle.gv_vm.specs.declared.outcome.Outcome.{Outcome}
 use Rattle.gv_vm.proofs.AlikeQueueLemmas.{reached_alike, lacking_alike, reached_or_lacking}
-use Rattle.gv_vm.proofs.AlikeTurnLemmas.{raised_alike, paid_alike, given_up_alike, bound_alike}
+use Rattle.gv_vm.proofs.AlikeBindLemmas.{raised_alike, paid_alike, given_up_alike, bound_alike}
 use Rattle.gv_vm.proofs.AlikeEnabledLemmas.{AreAlikeWorlds-sym, look_enabled, bind_enabled, give_up_enabled, pay_enabled, raise_enabled}
 use Rattle.gv_vm.proofs.AlikeTakingLemmas.{IsIdle, moved, pair}
 

@@ -14,10 +14,10 @@ use Rattle.gv_vm.specs.declared.jobs.Access.{Access}
 use Rattle.gv_vm.specs.declared.jobs.Job.{Job}
 use Rattle.gv_vm.specs.declared.places.Place.{Place}
 use Rattle.gv_vm.proofs.AlikeVmLemmas.{begun_alike, ended_alike, places_alike, job_number_alike}
-use Rattle.gv_vm.proofs.AlikeTurnLemmas.{vms_alike}
+use Rattle.gv_vm.proofs.AlikeBindLemmas.{vms_alike}
 use Rattle.gv_vm.proofs.AlikeTakingLemmas.{moved, put_step, take_step}
 use Rattle.gv_vm.proofs.AlikeServingLemmas.{look_step, bind_step, give_up_step, pay_step, raise_step}
-use Rattle.gv_vm.proofs.AlikeAnsweringLemmas.{IsRefusal, call_pair, create_step, destroy_step, trim_step, translate_step}
+use Rattle.gv_vm.proofs.AlikeCallLemmas.{IsRefusal, call_pair, create_step, destroy_step, trim_step, translate_step}
 use Rattle.gv_vm.proofs.AlikeUndoStepLemmas.{rewind_step, withdraw_step, settle_step, forget_step}
 
 -- A job begins.

@@ -1,4 +1,4 @@
--- For callers: the same step of a queue in worlds that tell the same.
+-- For callers: the same put or take on a queue in worlds that are alike.
 use Rattle.std.proofs.Common.{◌≡◌, ℕ, inl, inr, refl, sym, ap, ◌∙◌, subst}
 use Rattle.std.specs.Prelude.{◌⊎◌}
 use Rattle.std.proofs.lemmas.Option.{none-some, same_Some}

@@ -14,9 +14,9 @@ use Rattle.gv_vm.specs.declared.event.Reply.{Reply}
 use Rattle.gv_vm.specs.declared.event.Reply.TheVariants.{Idle, Rewound, Withdrawn, Settled, Forgot, Refused}
 use Rattle.gv_vm.proofs.AlikeForgettingLemmas.{forgotten_of_alike, vm_forgotten}
 use Rattle.gv_vm.proofs.AlikeVmLemmas.{vm_rewound, vm_withdrawn, vm_settled}
-use Rattle.gv_vm.proofs.AlikeTurnLemmas.{vms_alike}
+use Rattle.gv_vm.proofs.AlikeBindLemmas.{vms_alike}
 use Rattle.gv_vm.proofs.AlikeTakingLemmas.{moved}
-use Rattle.gv_vm.proofs.AlikeAnsweringLemmas.{IsRefusal, entries_state, call_pair}
+use Rattle.gv_vm.proofs.AlikeCallLemmas.{IsRefusal, entries_state, call_pair}
 
 -- The newest item is rewound.
 

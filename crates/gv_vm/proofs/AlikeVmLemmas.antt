@@ -21,11 +21,11 @@ use Rattle.gv_journal.specs.declared.refusal.Refusal.{Refusal}
 use Rattle.gv_journal.proofs.BareItemLemmas.{next_alike, settle_fault_alike}
 use Rattle.gv_journal.proofs.AlikeLemmas.{verdict_alike, withdraw_fault_alike, bound_alike, applied_alike, withdrawn_alike, rewound_alike, settled_alike}
 use Rattle.gv_vm.specs.Places.{place_at}
-use Rattle.gv_vm.specs.Jobs.{JobsState, JobState, begin_fault, end_fault, without_job, all_held, job_state, IsBegun, IsEnded}
+use Rattle.gv_vm.specs.Jobs.{JobsState, JobState, begin_fault, end_fault, without_job, with_all_held, job_state, IsBegun, IsEnded}
 use Rattle.gv_vm.specs.State.{VmState, HasOtherBuffers, HasOtherJobs}
 use Rattle.gv_vm.specs.Outcomes.{with_outcome}
 use Rattle.gv_vm.specs.BindOutcome.{CameTo, IsBoundAndTold}
-use Rattle.gv_vm.specs.Trimming.{held_from, trim_fault}
+use Rattle.gv_vm.specs.Trimming.{held_fault, trim_fault}
 use Rattle.gv_vm.specs.Step.{event_fault, rewind_fault}
 use Rattle.gv_vm.proofs.AlikeForgettingLemmas.{forget_fault_alike}
 use Rattle.gv_vm.specs.Alike.{AreAlikeVms, IsAmple}
@@ -52,7 +52,7 @@ abbrev held_of : ℕ → List BareItem → Option Fault
 held_of first [] = None
 held_of first (item ∷ older) = Some (Held first)
 
-held_is : (first : ℕ) (items : List Item) → held_from first items ≡ held_of first (map bare_item items)
+held_is : (first : ℕ) (items : List Item) → held_fault first items ≡ held_of first (map bare_item items)
 held_is first [] = refl
 held_is first (item ∷ older) = refl
 
@@ -173,8 +173,8 @@ module _ (v v' : VmState) (alike : AreAlikeVms v v') where
         ∙ ap (λ (ps : List Place). let j : JobState = record { number = job'.number; places = ps } in j) places in
         other_jobs rest rest'
         (ap (λ (s : SpaceState). s.buffers) begun.space
-        ∙ ap (λ (s : SpaceState). all_held s.mappings v.jobs.begun accesses s.buffers) alike.space
-        ∙ ap (λ (r : JobsState). all_held v'.space.mappings r.begun accesses v'.space.buffers) alike.jobs
+        ∙ ap (λ (s : SpaceState). with_all_held s.mappings v.jobs.begun accesses s.buffers) alike.space
+        ∙ ap (λ (r : JobsState). with_all_held v'.space.mappings r.begun accesses v'.space.buffers) alike.jobs
         ∙ ap (λ (s : SpaceState). s.buffers) (sym begun'.space))
         (begun.jobs
         ∙ ap (λ (r : JobsState). let x : JobsState = record { begun = r.begun + 1; running = r.running ++ job_state job ∷ [] } in x) alike.jobs

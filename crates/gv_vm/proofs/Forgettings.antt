@@ -14,12 +14,12 @@ use Rattle.gv_journal.specs.declared.item.ItemKind.{ItemKind}
 use Rattle.gv_journal.specs.declared.item.ItemKind.TheVariants.{Bind, Withdrawal}
 use Rattle.gv_vm.specs.Outcomes.{told_to, forgotten_outcome}
 use Rattle.gv_vm.specs.State.{VmState, IsVm, WasTold, ToldMatchesJournal, forgotten_of, told_limit}
-use Rattle.gv_vm.specs.Forgetting.{is_told_below, held_below, forget_fault, with_forgotten}
+use Rattle.gv_vm.specs.Forgetting.{is_told_below, least_held_below, forget_fault, with_forgotten}
 use Rattle.gv_vm.specs.World.{WorldState, QueueState, queue_at, next_number}
 use Rattle.gv_vm.specs.Queues.{IsQueueOf, AreQueues}
 use Rattle.gv_vm.specs.declared.outcome.Outcome.{Outcome}
 use Rattle.gv_vm.specs.declared.outcome.Outcome.TheVariants.{Accepted}
-use Rattle.gv_vm.proofs.Vms.{fits_space, IsVm-of}
+use Rattle.gv_vm.proofs.VmInvariant.{fits_space, IsVm-of}
 
 -- where nothing refuses it, there is such a queue, the number is within what it was told, and no entry is found
 fault_parts : (a b c : Bool) (o : Option ℕ) → cond (a || b || c) (Some NoOutcome) (option_map (λ by. Held by) o) ≡ None → (a ≡ false) × (b ≡ false) × (c ≡ false) × (o ≡ None)
@@ -30,9 +30,9 @@ fault_parts false false false None none = (refl, refl, refl, refl)
 fault_parts false false false (Some by) none = cc
 
 parts : (v : VmState) (queue to : ℕ) → forget_fault v queue to ≡ None →
-    (nat_le (length v.told) queue ≡ false) × (nat_lt to (forgotten_of v queue) ≡ false) × (nat_lt (length (told_to v.told queue)) to ≡ false) × (held_below v.journal queue to ≡ None)
+    (nat_le (length v.told) queue ≡ false) × (nat_lt to (forgotten_of v queue) ≡ false) × (nat_lt (length (told_to v.told queue)) to ≡ false) × (least_held_below v.journal queue to ≡ None)
 parts v queue to none =
-    fault_parts (nat_le (length v.told) queue) (nat_lt to (forgotten_of v queue)) (nat_lt (length (told_to v.told queue)) to) (held_below v.journal queue to) none
+    fault_parts (nat_le (length v.told) queue) (nat_lt to (forgotten_of v queue)) (nat_lt (length (told_to v.told queue)) to) (least_held_below v.journal queue to) none
 
 above : (a b : ℕ) → nat_le a b ≡ false → b < a
 above a b not = grind arith
@@ -158,7 +158,7 @@ forgot v queue to told forgotten told_is forgotten_is =
     ∙ ap (λ (gone : List ℕ). record v { told = (with_forgotten v queue to).told; forgotten = gone }) forgotten_is
 
 -- nothing refuses it
-pub none_from : (v : VmState) (queue to : ℕ) → queue < length v.told → forgotten_of v queue ≤ to → to ≤ length (told_to v.told queue) → held_below v.journal queue to ≡ None → forget_fault v queue to ≡ None
+pub none_from : (v : VmState) (queue to : ℕ) → queue < length v.told → forgotten_of v queue ≤ to → to ≤ length (told_to v.told queue) → least_held_below v.journal queue to ≡ None → forget_fault v queue to ≡ None
 none_from v queue to there low high held = rw (lt-leb _ _ there, le-ltb _ _ low, le-ltb _ _ high, held) refl
 
 -- No queue may be told fewer than before.

@@ -12,7 +12,7 @@ use Rattle.gv_buffers.specs.Buffers.{Buffer, uses, kept, buffer}
 use Rattle.gv_space.specs.Counts.{count_of}
 use Rattle.gv_space.specs.State.{SpaceState}
 use Rattle.gv_space.specs.Undo.{OpUndoState, reverted}
-use Rattle.gv_space.proofs.TableLemmas.{IsFound, found_buffer}
+use Rattle.gv_space.proofs.BufferTableLemmas.{IsFound, found_buffer}
 use Rattle.gv_journal.specs.Items.{JournalState}
 use Rattle.gv_journal.specs.History.{back, undos_of}
 use Rattle.gv_journal.specs.Undoing.{undone_by, reverted_by}

@@ -1,4 +1,4 @@
--- What a job's accesses came to, one access further.
+-- Each access of a job that begins keeps `HoldsSoFar`.
 use Rattle.std.proofs.Common.{◌≡◌, inl, inr, ℕ, zero, suc, ◌+◌, ◌<◌, ◌≤◌, List, [], ◌∷◌, ◌++◌, length, get_or, map, take, drop, arith, refl, sym, ◌∙◌, ap, subst, Some, None, Option}
 use Rattle.std.specs.Prelude.{MatchOption, Result, Ok, Err}
 use Rattle.std.specs.Bool.{⊤}
@@ -10,7 +10,7 @@ use Rattle.gv_buffers.specs.Buffers.{BuffersState, left_everywhere}
 use Rattle.gv_space.specs.Refusal.{first_of}
 use Rattle.gv_space.specs.State.{SpaceState, AreKept}
 use Rattle.gv_vm.specs.Places.{place_at}
-use Rattle.gv_vm.specs.Jobs.{access_fault, access_held, accesses_fault, all_held, AreRefused}
+use Rattle.gv_vm.specs.Jobs.{access_fault, with_access_held, accesses_fault, with_all_held, AreRefused}
 use Rattle.gv_vm.specs.Holding.{HoldsSoFar}
 use Rattle.gv_vm.specs.declared.jobs.Access.{Access}
 use Rattle.gv_vm.specs.declared.places.Place.{Place}
@@ -43,10 +43,10 @@ here_some old s job n a fault rest is = subst (λ (ms : List Mapping). access_fa
 
 -- what is left to do goes on behind an access without fault
 faults_go_on : (ms : List Mapping) (job n : ℕ) (t : BuffersState) (accesses : List Access) (a d : Access) → n < length accesses → a ≡ get_or accesses n d →
-    access_fault ms job t n a ≡ None → accesses_fault ms job t n (drop n accesses) ≡ accesses_fault ms job (access_held ms job a t) (n + 1) (drop (n + 1) accesses)
+    access_fault ms job t n a ≡ None → accesses_fault ms job t n (drop n accesses) ≡ accesses_fault ms job (with_access_held ms job a t) (n + 1) (drop (n + 1) accesses)
 faults_go_on ms job n t accesses a d less is none =
     ap (λ (xs : List Access). accesses_fault ms job t n xs) (turn accesses n a d less is)
-    ∙ first_of_none (access_fault ms job t n a) (accesses_fault ms job (access_held ms job a t) (n + 1) (drop (n + 1) accesses)) none
+    ∙ first_of_none (access_fault ms job t n a) (accesses_fault ms job (with_access_held ms job a t) (n + 1) (drop (n + 1) accesses)) none
 
 -- the first access has no fault where it had none in its turn
 first_allowed : (ms : List Mapping) (job n : ℕ) (t t0 : BuffersState) (accesses : List Access) (a d : Access) → n < length accesses → a ≡ get_or accesses n d → (n ≡ 0 → t ≡ t0) →
@@ -63,22 +63,22 @@ first_allowed ms job (suc n) t t0 accesses a d less is same none first = first (
 pub HoldsSoFar-more : (old s new : SpaceState) (job n : ℕ) (accesses : List Access) (places : List Place) (a d : Access) (place : Place) →
     HoldsSoFar old s job n accesses places → n < length accesses → a ≡ get_or accesses n d →
     access_fault s.mappings job s.buffers n a ≡ None → place_at s.mappings a.addr ≡ Some place →
-    new ≡ record s { buffers = access_held s.mappings job a s.buffers } → left_everywhere job new.buffers ≡ left_everywhere job s.buffers →
+    new ≡ record s { buffers = with_access_held s.mappings job a s.buffers } → left_everywhere job new.buffers ≡ left_everywhere job s.buffers →
     ((ms : List Mapping) → AreKept s ms → AreKept new ms) → HoldsSoFar old new job (n + 1) accesses (places ++ place ∷ [])
 HoldsSoFar-more old s new job n accesses places a d place so_far less is none found held left kept =
     let same : s.mappings ≡ old.mappings = ap (λ (x : SpaceState). x.mappings) so_far.rest in
     let none_here : access_fault old.mappings job s.buffers n a ≡ None = here_none old s job n a so_far.rest none in
-    let buffers : new.buffers ≡ access_held old.mappings job a s.buffers =
-    ap (λ (x : SpaceState). x.buffers) held ∙ ap (λ (ms : List Mapping). access_held ms job a s.buffers) same in
+    let buffers : new.buffers ≡ with_access_held old.mappings job a s.buffers =
+    ap (λ (x : SpaceState). x.buffers) held ∙ ap (λ (ms : List Mapping). with_access_held ms job a s.buffers) same in
     let found_here : place_at old.mappings a.addr ≡ Some place = subst (λ (ms : List Mapping). place_at ms a.addr ≡ Some place) same found in
     record {
       start = λ e. absurd (omega (arith, e));
-      rest = held ∙ ap (λ (x : SpaceState). record x { buffers = access_held s.mappings job a s.buffers }) so_far.rest
+      rest = held ∙ ap (λ (x : SpaceState). record x { buffers = with_access_held s.mappings job a s.buffers }) so_far.rest
           ∙ ap (λ (t : BuffersState). record old { buffers = t }) (sym (ap (λ (x : SpaceState). x.buffers) held));
       faults = ap (λ (t : BuffersState). accesses_fault old.mappings job t (n + 1) (drop (n + 1) accesses)) buffers
           ∙ sym (faults_go_on old.mappings job n s.buffers accesses a d less is none_here) ∙ so_far.faults;
-      holds = ap (λ (t : BuffersState). all_held old.mappings job (drop (n + 1) accesses) t) buffers
-          ∙ sym (ap (λ (xs : List Access). all_held old.mappings job xs s.buffers) (turn accesses n a d less is)) ∙ so_far.holds;
+      holds = ap (λ (t : BuffersState). with_all_held old.mappings job (drop (n + 1) accesses) t) buffers
+          ∙ sym (ap (λ (xs : List Access). with_all_held old.mappings job xs s.buffers) (turn accesses n a d less is)) ∙ so_far.holds;
       left = left ∙ so_far.left;
       first = λ _. first_allowed old.mappings job n s.buffers old.buffers accesses a d less is so_far.start none_here so_far.first;
       found = map-append Some places (place ∷ [])
@@ -115,7 +115,7 @@ AreRefused-here old s job n accesses places a d fault so_far less is why =
       | Some f ↦ (λ some same. inl (
           sym so_far.faults
           ∙ ap (λ (xs : List Access). accesses_fault old.mappings job s.buffers n xs) (turn accesses n a d less is)
-          ∙ first_of_some (access_fault old.mappings job s.buffers n a) (accesses_fault old.mappings job (access_held old.mappings job a s.buffers) (n + 1) (drop (n + 1) accesses)) f (here_some old s job n a f so_far.rest some)
+          ∙ first_of_some (access_fault old.mappings job s.buffers n a) (accesses_fault old.mappings job (with_access_held old.mappings job a s.buffers) (n + 1) (drop (n + 1) accesses)) f (here_some old s job n a f so_far.rest some)
           ∙ ap (λ (x : Fault). Some x) (same_fault f fault same)))
     ] refl why
 
@@ -129,13 +129,13 @@ pub AreRefused-last : (ms : List Mapping) (job : ℕ) (t : BuffersState) (access
     AreRefused ms job t accesses fault
 AreRefused-last ms job t [] fault none memory = inr (memory, refl)
 AreRefused-last ms job t (a ∷ accesses) fault none memory =
-    inr (memory, first_of_none (access_fault ms job t 0 a) None (none_of_first (access_fault ms job t 0 a) (accesses_fault ms job (access_held ms job a t) (0 + 1) accesses) none))
+    inr (memory, first_of_none (access_fault ms job t 0 a) None (none_of_first (access_fault ms job t 0 a) (accesses_fault ms job (with_access_held ms job a t) (0 + 1) accesses) none))
 
 -- all accesses are done
 pub record AreAllHeld (old s : SpaceState) (job : ℕ) (accesses : List Access) (places : List Place) : Type 0 where
   pub none : accesses_fault old.mappings job old.buffers 0 accesses ≡ None
   pub found : map Some places ≡ map (λ access. place_at old.mappings access.addr) accesses
-  pub space : s ≡ record old { buffers = all_held old.mappings job accesses old.buffers }
+  pub space : s ≡ record old { buffers = with_all_held old.mappings job accesses old.buffers }
 
 pub AreAllHeld-end : (old s : SpaceState) (job n : ℕ) (accesses : List Access) (places : List Place) → HoldsSoFar old s job n accesses places → length accesses ≤ n →
     AreAllHeld old s job accesses places
@@ -145,5 +145,5 @@ AreAllHeld-end old s job n accesses places so_far past =
       none = sym so_far.faults ∙ ap (λ (xs : List Access). accesses_fault old.mappings job s.buffers n xs) over;
       found = so_far.found ∙ ap (λ (xs : List Access). map (λ access. place_at old.mappings access.addr) xs) (take_all n accesses past);
       space = so_far.rest ∙ ap (λ (t : BuffersState). record old { buffers = t })
-          (ap (λ (xs : List Access). all_held old.mappings job xs s.buffers) (sym over) ∙ so_far.holds);
+          (ap (λ (xs : List Access). with_all_held old.mappings job xs s.buffers) (sym over) ∙ so_far.holds);
     }

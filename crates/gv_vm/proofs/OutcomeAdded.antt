@@ -13,7 +13,7 @@ use Rattle.gv_types.specs.declared.request.Request.{Request}
 use Rattle.gv_space.specs.State.{SpaceState, IsSpace}
 use Rattle.gv_sync.specs.Sights.{Sight}
 use Rattle.gv_journal.specs.Items.{JournalState, NumberedItem, entries, next}
-use Rattle.gv_journal.specs.State.{FitsSpace}
+use Rattle.gv_journal.specs.Fits.{FitsSpace}
 use Rattle.gv_journal.specs.Applying.{all_do}
 use Rattle.gv_journal.specs.declared.item.ItemKind.{ItemKind}
 use Rattle.gv_journal.specs.declared.item.ItemKind.TheVariants.{Bind, Withdrawal}
@@ -23,7 +23,7 @@ use Rattle.gv_vm.specs.BindOutcome.{CameTo, seen_by}
 use Rattle.gv_vm.specs.State.{VmState, roomless, IsVm, WasTold, ToldMatchesJournal, SawItsWaits, WaitsWereReached}
 use Rattle.gv_vm.specs.declared.outcome.Outcome.{Outcome}
 use Rattle.gv_vm.specs.declared.outcome.Outcome.TheVariants.{Accepted, Refused, NotReady}
-use Rattle.gv_vm.proofs.Vms.{fits_space, IsVm-of, AreHeld-after_all}
+use Rattle.gv_vm.proofs.VmInvariant.{fits_space, IsVm-of, AreHeld-after_all}
 
 -- an outcome keeps its number when one is added
 still_there : (told : List Outcome) (n : ℕ) (more x : Outcome) → slice_get told n ≡ Some x → slice_get (told ++ more ∷ []) n ≡ Some x

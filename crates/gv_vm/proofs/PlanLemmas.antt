@@ -1,4 +1,4 @@
--- For callers: how a plan goes on with the replies of a world.
+-- For callers: how a plan of events (specs/Plans.antt) goes on with the replies of a world.
 use Rattle.std.proofs.Common.{◌≡◌, ◌≢◌, ℕ, zero, suc, ◌+◌, ◌<◌, List, [], ◌∷◌, ◌++◌, length, drop, Some, None, refl, sym, ap, ◌∙◌, subst, append_assoc, append-nil, arith, Bool, true, false, Err}
 use Rattle.gv_types.specs.declared.fault.OutOfMemory.{OutOfMemory as WantOfMemory}
 use Rattle.gv_types.specs.declared.request.Point.{Point}
@@ -11,8 +11,8 @@ use Rattle.gv_vm.specs.declared.event.Event.{Event}
 use Rattle.gv_vm.specs.declared.event.Event.TheVariants.{Put, Take, Look, Bind, GiveUp, Pay}
 use Rattle.gv_vm.specs.declared.event.Reply.{Reply}
 use Rattle.gv_vm.specs.declared.event.Reply.TheVariants.{Put as IsPut, Taken, Reached, Lacking, Told, Raised}
-use Rattle.gv_vm.specs.declared.event.Looked.{Looked}
-use Rattle.gv_vm.specs.declared.event.Looked.TheVariants.{AllReached}
+use Rattle.gv_vm.specs.declared.event.LookResult.{LookResult}
+use Rattle.gv_vm.specs.declared.event.LookResult.TheVariants.{NoneLacked}
 use Rattle.gv_vm.specs.declared.outcome.Outcome.TheVariants.{Accepted, Refused, NotReady}
 use Rattle.gv_vm.specs.Plans.{Plan, nothing, once, serving, taking, looks, carrying_out, paying, payments, AreAsked, IsCarriedOut, IsStopped, Steps, GoesOn, Goes, is_put, is_taken, is_accepted, is_raised, looked_of, after_looks}
 
@@ -111,13 +111,13 @@ pub not_taken : (gives_up : Bool) (queue : ℕ) (request : Request) (reply : Rep
 not_taken gives_up queue request (Taken number) is later = cc
 not_taken gives_up queue request reply is later = refl
 
-pub reached_goes : (gives_up : Bool) (queue : ℕ) (point : Point) (points signals : List Point) (reply : Reply) → looked_of reply ≡ AllReached → (later : List Reply) →
+pub reached_goes : (gives_up : Bool) (queue : ℕ) (point : Point) (points signals : List Point) (reply : Reply) → looked_of reply ≡ NoneLacked → (later : List Reply) →
     looks gives_up queue (point ∷ points) signals (reply ∷ later) ≡ looks gives_up queue points signals later
 reached_goes gives_up queue point points signals (Reached at seen) is later = refl
 reached_goes gives_up queue point points signals (Lacking at have) is later = cc
 reached_goes gives_up queue point points signals reply is later = cc
 
-pub look_ends : (gives_up : Bool) (queue : ℕ) (point : Point) (points signals : List Point) (reply : Reply) → looked_of reply ≢ AllReached → (later : List Reply) →
+pub look_ends : (gives_up : Bool) (queue : ℕ) (point : Point) (points signals : List Point) (reply : Reply) → looked_of reply ≢ NoneLacked → (later : List Reply) →
     looks gives_up queue (point ∷ points) signals (reply ∷ later) ≡ after_looks gives_up queue signals (looked_of reply) later
 look_ends gives_up queue point points signals (Reached at seen) is later = absurd (is refl)
 look_ends gives_up queue point points signals (Lacking at have) is later = refl
@@ -188,7 +188,7 @@ bound_stops queue signals reply w v here is = goes_first (carrying_out queue sig
 
 -- Looks and payments, so many of which are done.
 
-pub look_goes_on : (gives_up : Bool) (queue k : ℕ) (points signals : List Point) (reply : Reply) (w v : WorldState) → k < length points → Steps w (Look queue) reply v → looked_of reply ≡ AllReached →
+pub look_goes_on : (gives_up : Bool) (queue k : ℕ) (points signals : List Point) (reply : Reply) (w v : WorldState) → k < length points → Steps w (Look queue) reply v → looked_of reply ≡ NoneLacked →
     Goes (looks gives_up queue (drop k points) signals) w (reply ∷ []) v (looks gives_up queue (drop (k + 1) points) signals)
 look_goes_on gives_up queue k points signals reply w v below here is =
     let p = next_point k points below in
@@ -196,8 +196,8 @@ look_goes_on gives_up queue k points signals reply w v below here is =
     (goes_first (looks gives_up queue (p.0 ∷ drop (k + 1) points) signals) (looks gives_up queue (drop (k + 1) points) signals) (Look queue) reply w v refl here
     (reached_goes gives_up queue p.0 (drop (k + 1) points) signals reply is))
 
-pub look_stops : (gives_up : Bool) (queue k : ℕ) (points signals : List Point) (reply : Reply) (came : Looked) (w v : WorldState) → k < length points → Steps w (Look queue) reply v →
-    looked_of reply ≡ came → came ≢ AllReached → Goes (looks gives_up queue (drop k points) signals) w (reply ∷ []) v (after_looks gives_up queue signals came)
+pub look_stops : (gives_up : Bool) (queue k : ℕ) (points signals : List Point) (reply : Reply) (came : LookResult) (w v : WorldState) → k < length points → Steps w (Look queue) reply v →
+    looked_of reply ≡ came → came ≢ NoneLacked → Goes (looks gives_up queue (drop k points) signals) w (reply ∷ []) v (after_looks gives_up queue signals came)
 look_stops gives_up queue k points signals reply came w v below here is ends =
     let p = next_point k points below in
     rw (p.1, ← is)
@@ -230,7 +230,7 @@ pub paying_done : (queue k : ℕ) (points : List Point) (next : Plan) (later : L
 paying_done queue k points next later is = rw (← is, all_dropped points) refl
 
 -- a request was put and taken, and its waits were looked at
-pub looked_goes : (queue : ℕ) (request : Request) (put took : Reply) (replies : List Reply) (came : Looked) (w v u x : WorldState) →
+pub looked_goes : (queue : ℕ) (request : Request) (put took : Reply) (replies : List Reply) (came : LookResult) (w v u x : WorldState) →
     Steps w (Put queue request) put v → is_put put ≡ true → Steps v (Take queue) took u → is_taken took ≡ true →
     Goes (looks true queue request.waits.items request.signals.items) u replies x (after_looks true queue request.signals.items came) →
     Goes (serving queue request) w (put ∷ (took ∷ replies)) x (after_looks true queue request.signals.items came)

@@ -8,17 +8,17 @@ use Rattle.gv_types.specs.declared.request.Request.{Request}
 use Rattle.gv_vm.specs.Step.{step}
 use Rattle.gv_vm.specs.World.{WorldState, HandState, queue_at, next_number}
 use Rattle.gv_vm.specs.declared.event.Event.TheVariants.{Take, Look, Pay, GiveUp}
-use Rattle.gv_vm.specs.declared.event.Looked.TheVariants.{Lacked}
+use Rattle.gv_vm.specs.declared.event.LookResult.TheVariants.{Lacked}
 use Rattle.gv_vm.specs.declared.event.Reply.{Reply}
 use Rattle.gv_vm.specs.declared.event.Reply.TheVariants.{Reached, Lacking, Told}
 use Rattle.gv_vm.specs.declared.outcome.Outcome.TheVariants.{Accepted, Refused, NotReady}
-use Rattle.gv_vm.specs.declared.ahead.Left.{Left}
+use Rattle.gv_vm.specs.declared.next_turn.Remaining.{Remaining}
 use Rattle.gv_vm.specs.declared.world.turn.Seen.TheVariants.{Lacks}
-use Rattle.gv_vm.specs.declared.world.turn.Turn.{Turn}
-use Rattle.gv_vm.specs.declared.world.turn.Turn.TheVariants.{Idle}
+use Rattle.gv_vm.specs.declared.world.turn.TurnResult.{TurnResult}
+use Rattle.gv_vm.specs.declared.world.turn.TurnResult.TheVariants.{Idle}
 use Rattle.gv_vm.specs.Plans.{Plan, Goes, paying, nothing, once, lacking, looks, taking, IsCarriedOut, IsStopped, is_accepted, looked_of}
 use Rattle.gv_vm.specs.QueueTurns.{turn_of, going_on, turning, is_earlier, IsTurn, AreTurns, IsServedUpTo, IsQuiet}
-use Rattle.gv_vm.specs.TurnInside.{AreQuiet, AreLeft, IsLeftIn, seen_of, seen_as}
+use Rattle.gv_vm.specs.TurnParts.{AreQuiet, AreRemaining, IsRemainingIn, seen_of, seen_as}
 use Rattle.gv_vm.proofs.PlanLemmas.{goes_nil, goes_as, carried_out_behind, stopped_behind}
 
 -- Replies that tell nothing of a turn.
@@ -101,25 +101,25 @@ pub quiet_idle : (replies : List Reply) → AreQuiet replies → turn_of replies
 quiet_idle replies quiet = ap turn_of (sym (append-nil replies)) ∙ quiet []
 
 -- one reply more before those that tell of a turn
-pub behind_quiet : (first rest : List Reply) (turn : Turn) → AreQuiet first → turn ≡ turn_of rest → turn ≡ turn_of (first ++ rest)
+pub behind_quiet : (first rest : List Reply) (turn : TurnResult) → AreQuiet first → turn ≡ turn_of rest → turn ≡ turn_of (first ++ rest)
 behind_quiet first rest turn quiet is = is ∙ sym (quiet rest)
 
 -- what is in hand, or taken, is gone on with
 
-pub in_hand_goes : (gives_up : Bool) (queue : ℕ) (hand : Option HandState) (waiting : List Request) (left : Left) → left.in_hand ≡ true → IsLeftIn hand waiting (Some left) →
-    (waits : List Point) × (signals : List Point) × AreLeft waits signals left × ((later : List Reply) → going_on gives_up queue hand waiting later ≡ looks gives_up queue waits signals later)
-in_hand_goes gives_up queue (Some h) waiting left here is = (drop (length h.reached) h.request.waits.items, h.request.signals.items, is.1, λ later. refl)
-in_hand_goes gives_up queue None (request ∷ later) left here is = let e = sym here ∙ is.0 in cc
-in_hand_goes gives_up queue None [] left here is = absurd is
+pub in_hand_goes : (gives_up : Bool) (queue : ℕ) (hand : Option HandState) (waiting : List Request) (remaining : Remaining) → remaining.in_hand ≡ true → IsRemainingIn hand waiting (Some remaining) →
+    (waits : List Point) × (signals : List Point) × AreRemaining waits signals remaining × ((later : List Reply) → going_on gives_up queue hand waiting later ≡ looks gives_up queue waits signals later)
+in_hand_goes gives_up queue (Some h) waiting remaining here is = (drop (length h.reached) h.request.waits.items, h.request.signals.items, is.1, λ later. refl)
+in_hand_goes gives_up queue None (request ∷ later) remaining here is = let e = sym here ∙ is.0 in cc
+in_hand_goes gives_up queue None [] remaining here is = absurd is
 
-pub taken_is : (gives_up : Bool) (queue : ℕ) (hand : Option HandState) (waiting : List Request) (left : Left) → left.in_hand ≡ false → IsLeftIn hand waiting (Some left) →
-    (request : Request) × AreLeft request.waits.items request.signals.items left × ((later : List Reply) → going_on gives_up queue hand waiting later ≡ taking gives_up queue request later)
-taken_is gives_up queue (Some h) waiting left here is = let e = sym here ∙ is.0 in cc
-taken_is gives_up queue None (request ∷ later) left here is = (request, is.1, λ more. refl)
-taken_is gives_up queue None [] left here is = absurd is
+pub taken_is : (gives_up : Bool) (queue : ℕ) (hand : Option HandState) (waiting : List Request) (remaining : Remaining) → remaining.in_hand ≡ false → IsRemainingIn hand waiting (Some remaining) →
+    (request : Request) × AreRemaining request.waits.items request.signals.items remaining × ((later : List Reply) → going_on gives_up queue hand waiting later ≡ taking gives_up queue request later)
+taken_is gives_up queue (Some h) waiting remaining here is = let e = sym here ∙ is.0 in cc
+taken_is gives_up queue None (request ∷ later) remaining here is = (request, is.1, λ more. refl)
+taken_is gives_up queue None [] remaining here is = absurd is
 
--- nothing is left
-pub nothing_left : (gives_up : Bool) (queue : ℕ) (hand : Option HandState) (waiting : List Request) → IsLeftIn hand waiting None → going_on gives_up queue hand waiting [] ≡ None
+-- nothing remains
+pub nothing_left : (gives_up : Bool) (queue : ℕ) (hand : Option HandState) (waiting : List Request) → IsRemainingIn hand waiting None → going_on gives_up queue hand waiting [] ≡ None
 nothing_left gives_up queue (Some h) waiting is = absurd is
 nothing_left gives_up queue None (request ∷ later) is = absurd is
 nothing_left gives_up queue None [] is = refl
@@ -132,22 +132,22 @@ pub stopped_as : (p q : Plan) (w v : WorldState) (replies : List Reply) → ((la
 stopped_as p q w v replies same out = stopped_behind p q w w v [] replies (goes_as p p q w w [] same (goes_nil p w)) out
 
 -- the signals are paid, and the queue went on
-pub paid_on : (gives_up : Bool) (queue : ℕ) (w v x : WorldState) (left : Left) (paid : List Reply) → AreQuiet paid →
+pub paid_on : (gives_up : Bool) (queue : ℕ) (w v x : WorldState) (remaining : Remaining) (paid : List Reply) → AreQuiet paid →
     Goes (paying queue (queue_at w queue).owed (going_on gives_up queue (queue_at w queue).hand (queue_at w queue).waiting)) w paid v (going_on gives_up queue (queue_at w queue).hand (queue_at w queue).waiting) →
-    (result : Result Turn WantOfMemory) → IsLeftIn (queue_at w queue).hand (queue_at w queue).waiting (Some left) →
+    (result : Result TurnResult WantOfMemory) → IsRemainingIn (queue_at w queue).hand (queue_at w queue).waiting (Some remaining) →
     IfOk result (λ turn. (replies : List Reply) × (turn ≡ turn_of replies)
-    × ((hand : Option HandState) (waiting : List Request) → IsLeftIn hand waiting (Some left) → IsCarriedOut (going_on gives_up queue hand waiting) v replies x)) →
+    × ((hand : Option HandState) (waiting : List Request) → IsRemainingIn hand waiting (Some remaining) → IsCarriedOut (going_on gives_up queue hand waiting) v replies x)) →
     OnErr result ((replies : List Reply)
-    × ((hand : Option HandState) (waiting : List Request) → IsLeftIn hand waiting (Some left) → IsStopped (going_on gives_up queue hand waiting) v replies x)) →
+    × ((hand : Option HandState) (waiting : List Request) → IsRemainingIn hand waiting (Some remaining) → IsStopped (going_on gives_up queue hand waiting) v replies x)) →
     IsTurn gives_up queue w result x
-paid_on gives_up queue w v x left paid quiet goes (Ok turn) is went stopped =
+paid_on gives_up queue w v x remaining paid quiet goes (Ok turn) is went stopped =
     let q = queue_at w queue in
     record {
       replies = paid ++ went.0;
       carried_out = carried_out_behind (turning gives_up queue q) (going_on gives_up queue q.hand q.waiting) w v x paid went.0 goes (went.2 q.hand q.waiting is);
       came = behind_quiet paid went.0 turn quiet went.1;
     }
-paid_on gives_up queue w v x left paid quiet goes (Err want) is went stopped =
+paid_on gives_up queue w v x remaining paid quiet goes (Err want) is went stopped =
     let q = queue_at w queue in
     record {
       replies = paid ++ stopped.0;
@@ -156,13 +156,13 @@ paid_on gives_up queue w v x left paid quiet goes (Err want) is went stopped =
 
 -- Turns up to a request.
 
-pub turned_last : (left queue number : ℕ) (w v : WorldState) (turn : Result Turn WantOfMemory) → 0 < left → IsTurn false queue w turn v → is_earlier number turn ≡ false →
-    AreTurns left queue number w turn v
+pub turned_last : (remaining queue number : ℕ) (w v : WorldState) (turn : Result TurnResult WantOfMemory) → 0 < remaining → IsTurn false queue w turn v → is_earlier number turn ≡ false →
+    AreTurns remaining queue number w turn v
 turned_last zero queue number w v turn some took last = absurd (omega (arith, some))
 turned_last (suc more) queue number w v turn some took last = (turn, v, took, (rw last (refl, refl)))
 
-pub turned_on : (left queue number : ℕ) (w v x : WorldState) (turn result : Result Turn WantOfMemory) → 0 < left → IsTurn false queue w turn v → is_earlier number turn ≡ true →
-    AreTurns (left - 1) queue number v result x → AreTurns left queue number w result x
+pub turned_on : (remaining queue number : ℕ) (w v x : WorldState) (turn result : Result TurnResult WantOfMemory) → 0 < remaining → IsTurn false queue w turn v → is_earlier number turn ≡ true →
+    AreTurns (remaining - 1) queue number v result x → AreTurns remaining queue number w result x
 turned_on zero queue number w v x turn result some took earlier rest = absurd (omega (arith, some))
 turned_on (suc more) queue number w v x turn result some took earlier rest =
     let one : suc more - 1 ≡ more = omega arith in (turn, v, took, (rw earlier (subst (λ (n : ℕ). AreTurns n queue number v result x) one rest)))
@@ -170,17 +170,17 @@ turned_on (suc more) queue number w v x turn result some took earlier rest =
 pub served_before : (queue number told : ℕ) (w : WorldState) → told ≡ next_number w queue → number < told → IsServedUpTo queue number w (Ok Idle) w
 served_before queue number told w is below = let less : nat_lt number (next_number w queue) ≡ true = lt-ltb _ _ (omega (arith, is, below)) in rw less (refl, refl)
 
-pub served_now : (queue number told : ℕ) (w v : WorldState) (result : Result Turn WantOfMemory) → told ≡ next_number w queue → told ≤ number →
+pub served_now : (queue number told : ℕ) (w v : WorldState) (result : Result TurnResult WantOfMemory) → told ≡ next_number w queue → told ≤ number →
     AreTurns (number - told) queue number w result v → IsServedUpTo queue number w result v
 served_now queue number told w v result is below turns = let not : nat_lt number (next_number w queue) ≡ false = le-ltb _ _ (omega (arith, is, below)) in rw (not, ← is) turns
 
-none_left : (hand : Option HandState) (waiting : List Request) (left : Option Left) → IsLeftIn hand waiting left → is_none left ≡ true → (waiting ≡ []) × (hand ≡ None)
+none_left : (hand : Option HandState) (waiting : List Request) (remaining : Option Remaining) → IsRemainingIn hand waiting remaining → is_none remaining ≡ true → (waiting ≡ []) × (hand ≡ None)
 none_left hand waiting (Some l) is none = absurd (cc)
 none_left (Some h) waiting None is none = absurd is
 none_left None (request ∷ later) None is none = absurd is
 none_left None [] None is none = (refl, refl)
 
-left_none : (left : Option Left) → IsLeftIn None [] left → is_none left ≡ true
+left_none : (remaining : Option Remaining) → IsRemainingIn None [] remaining → is_none remaining ≡ true
 left_none (Some l) is = absurd is
 left_none None is = refl
 
@@ -188,14 +188,14 @@ nothing_owed : (points : List Point) → length points ≡ 0 → points ≡ []
 nothing_owed [] none = refl
 nothing_owed (p ∷ points) none = absurd (omega (arith, none))
 
--- a queue has nothing before it exactly where nothing is owed and nothing is left
-pub quiet_iff : (w : WorldState) (queue owed : ℕ) (left : Option Left) → length (queue_at w queue).owed ≡ owed → IsLeftIn (queue_at w queue).hand (queue_at w queue).waiting left →
-    IsTrue ((owed == 0) && is_none left) ↔ IsQuiet w queue
-quiet_iff w queue owed left counted is = (
+-- a queue has nothing before it exactly where nothing is owed and nothing remains
+pub quiet_iff : (w : WorldState) (queue owed : ℕ) (remaining : Option Remaining) → length (queue_at w queue).owed ≡ owed → IsRemainingIn (queue_at w queue).hand (queue_at w queue).waiting remaining →
+    IsTrue ((owed == 0) && is_none remaining) ↔ IsQuiet w queue
+quiet_iff w queue owed remaining counted is = (
   λ so.
-      let both = and_parts (owed == 0) (is_none left) so in
-      let none = none_left (queue_at w queue).hand (queue_at w queue).waiting left is both.1 in
+      let both = and_parts (owed == 0) (is_none remaining) so in
+      let none = none_left (queue_at w queue).hand (queue_at w queue).waiting remaining is both.1 in
       record { waiting = none.0; hand = none.1; owed = nothing_owed (queue_at w queue).owed (omega (arith, counted, eqb-true owed 0 both.0)) },
   λ quiet.
-      and_from (owed == 0) (is_none left) (eq-eqb owed 0 (omega (arith, counted, ap length quiet.owed))) (left_none left (rw (quiet.hand, quiet.waiting) at is)),
+      and_from (owed == 0) (is_none remaining) (eq-eqb owed 0 (omega (arith, counted, ap length quiet.owed))) (left_none remaining (rw (quiet.hand, quiet.waiting) at is)),
 )

@@ -1,4 +1,4 @@
--- What is said of a space with the room that there is, said of it without.
+-- What holds of a space holds of it without its room for mappings (`roomless`).
 use Rattle.std.proofs.Common.{◌≡◌, ℕ, List, [], ◌∷◌, reverse, Option, None, Result, Ok, Err, inl, inr, refl, sym, ap, ◌∙◌, subst}
 use Rattle.std.proofs.lemmas.Option.{none-some}
 use Rattle.std.proofs.lemmas.List.{reverse-reverse}
@@ -27,10 +27,10 @@ use Rattle.gv_journal.specs.declared.refusal.Refusal.{Refusal}
 use Rattle.gv_journal.proofs.RoomLemmas.{with_room, after_all-room, verdict_from-room, after_withdrawal-room, withdrawal_limits-room, reverted_by-room}
 use Rattle.gv_vm.specs.Jobs.{JobsState, IsBegun}
 use Rattle.gv_vm.specs.State.{VmState, IsVm, roomless}
-use Rattle.gv_vm.specs.Trimming.{held_from, trim_fault}
+use Rattle.gv_vm.specs.Trimming.{held_fault, trim_fault}
 use Rattle.gv_vm.specs.declared.jobs.Access.{Access}
 use Rattle.gv_vm.specs.declared.jobs.Job.{Job}
-use Rattle.gv_vm.proofs.Limited.{limits-after_all, limits-after_withdrawal, limits-reverted_by}
+use Rattle.gv_vm.proofs.SameLimits.{limits-after_all, limits-after_withdrawal, limits-reverted_by}
 
 -- What is within the limit needs no other room.
 
@@ -49,11 +49,11 @@ IsSpace-room s room is = record {
   limits = is.limits;
   laid_out = is.laid_out;
   few = is.few;
-  placed = is.placed;
+  valid = is.valid;
   buffers = is.buffers;
   used = is.used;
   all_kept = is.all_kept;
-  are_kept = record { placed = is.are_kept.placed; kept = is.are_kept.kept; kept_count = is.are_kept.kept_count };
+  are_kept = record { valid = is.are_kept.valid; kept = is.are_kept.kept; kept_count = is.are_kept.kept_count };
   few_kept = is.few_kept;
 }
 
@@ -61,12 +61,12 @@ pub IsSpace-roomless : (s : SpaceState) → IsSpace s → IsSpace (roomless s)
 IsSpace-roomless s is = IsSpace-room s s.limits.mappings is
 
 -- nothing is held: no undo value needs room
-none_held : (first : ℕ) (items : List Item) → held_from first items ≡ None → items ≡ []
+none_held : (first : ℕ) (items : List Item) → held_fault first items ≡ None → items ≡ []
 none_held first [] none = refl
 none_held first (item ∷ older) none = absurd (none-some (Held first) (sym none))
 
 pub none_of_empty : (j : JournalState) → reverse j.items ≡ [] → trim_fault j ≡ None
-none_of_empty j empty = ap (held_from j.first) (sym (reverse-reverse j.items) ∙ ap reverse empty)
+none_of_empty j empty = ap (held_fault j.first) (sym (reverse-reverse j.items) ∙ ap reverse empty)
 
 pub IsVm-room : (v : VmState) (t : SpaceState) → IsVm v → trim_fault v.journal ≡ None → t ≡ record v.space { room = t.room } → IsVm (record v { space = t })
 IsVm-room v t holds none is =
@@ -78,7 +78,7 @@ IsVm-room v t holds none is =
       translates = holds.translates;
       buffers_counted = record {
         used = IsSpace-room v.space t.room holds.buffers_counted.used;
-        kept = record { placed = holds.buffers_counted.kept.placed; kept = holds.buffers_counted.kept.kept; kept_count = holds.buffers_counted.kept.kept_count };
+        kept = record { valid = holds.buffers_counted.kept.valid; kept = holds.buffers_counted.kept.kept; kept_count = holds.buffers_counted.kept.kept_count };
         held = holds.buffers_counted.held;
       };
       rewinds = subst (λ (is : List Item). Rewinds limit t.room v.journal.first ms is (base ms is)) (sym items) tt;
@@ -96,7 +96,7 @@ IsVm-roomless v holds = record {
   translates = holds.translates;
   buffers_counted = record {
     used = IsSpace-roomless v.space holds.buffers_counted.used;
-    kept = record { placed = holds.buffers_counted.kept.placed; kept = holds.buffers_counted.kept.kept; kept_count = holds.buffers_counted.kept.kept_count };
+    kept = record { valid = holds.buffers_counted.kept.valid; kept = holds.buffers_counted.kept.kept; kept_count = holds.buffers_counted.kept.kept_count };
     held = holds.buffers_counted.held;
   };
   rewinds = rewinds v.space.limits.mappings v.space.room v.journal.first v.space.mappings v.journal.items (base v.space.mappings v.journal.items) holds.rewinds;

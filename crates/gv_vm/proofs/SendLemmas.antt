@@ -27,11 +27,11 @@ use Rattle.gv_types.proofs.bounds.Bounds.TheSendSync.{the_send as bounds_send}
 use Rattle.gv_types.proofs.limits.Limits.TheSendSync.{the_send as limits_send}
 use Rattle.gv_types.proofs.page_range.PageRange.TheSendSync.{the_send as range_send}
 use Rattle.gv_buffers.proofs.buffers.Buffers.TheSendSync.{the_send as buffers_send}
-use Rattle.gv_buffers.proofs.place_table.PlaceTable.TheSendSync.{the_send as places_send}
+use Rattle.gv_buffers.proofs.first_page_table.FirstPageTable.TheSendSync.{the_send as places_send}
 use Rattle.gv_journal.proofs.item.ItemKind.TheSendSync.{the_send as kind_send}
 use Rattle.gv_journal.proofs.columns.Columns.TheSendSync.{the_send as columns_send}
 use Rattle.gv_vm.proofs.jobs.Jobs.TheSendSync.{the_send as jobs_send}
-use Rattle.gv_vm.proofs.told.Told.TheSendSync.{the_send as told_send}
+use Rattle.gv_vm.proofs.told.QueueOutcomes.TheSendSync.{the_send as told_send}
 use Rattle.gv_types.proofs.packed.Packed.TheSendSync.{the_send as packed_send}
 use Rattle.smallvec.proofs.small_vec.SmallVec.TheSendSync.{the_send as small_vec_send}
 use Rattle.gv_space.specs.contracts.list_with_table.ListWithTable.TheInside.{the_row as list_with_table_inside, the_type as list_with_table_type}

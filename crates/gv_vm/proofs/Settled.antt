@@ -8,14 +8,14 @@ use Rattle.gv_space.specs.Counts.{less_kept}
 use Rattle.gv_space.specs.State.{SpaceState, IsSpace}
 use Rattle.gv_journal.specs.Items.{JournalState, NumberedItem, numbered, entries, next}
 use Rattle.gv_journal.specs.History.{kept_by}
-use Rattle.gv_journal.specs.State.{FitsSpace}
+use Rattle.gv_journal.specs.Fits.{FitsSpace}
 use Rattle.gv_journal.specs.Settling.{earlier, later, settle_fault, IsSettled}
 use Rattle.gv_journal.specs.declared.item.Item.{Item}
 use Rattle.gv_types.specs.declared.fault.Fault.{Fault}
 use Rattle.gv_space.proofs.ByCountLemmas.{less_kept_of_counts}
 use Rattle.gv_vm.specs.Jobs.{AreHeld}
 use Rattle.gv_vm.specs.State.{VmState, IsVm, WasTold, SawItsWaits}
-use Rattle.gv_vm.proofs.Vms.{IsVm-of, AreHeld-by_count}
+use Rattle.gv_vm.proofs.VmInvariant.{IsVm-of, AreHeld-by_count}
 
 -- later items keep their numbers
 numbered-take : (first : ℕ) (items : List Item) (k : ℕ) → k ≤ length items → numbered (first + (length items - k)) (take k items) ≡ take k (numbered first items)

@@ -7,10 +7,10 @@ with_its_room s is = record {
   limits = is.limits;
   laid_out = is.laid_out;
   few = is.few;
-  placed = is.placed;
+  valid = is.valid;
   buffers = is.buffers;
   used = is.used;
   all_kept = is.all_kept;
-  are_kept = record { placed = is.are_kept.placed; kept = is.are_kept.kept; kept_count = is.are_kept.kept_count };
+  are_kept = record { valid = is.are_kept.valid; kept = is.are_kept.kept; kept_count = is.are_kept.kept_count };
   few_kept = is.few_kept;
 }

@@ -13,12 +13,12 @@ use Rattle.gv_space.specs.State.{SpaceState, IsSpace, IsUnchanged}
 use Rattle.gv_space.proofs.ByCountLemmas.{counted_of_counts, more_kept_of_counts}
 use Rattle.gv_journal.specs.Items.{JournalState, NumberedItem, entries, next}
 use Rattle.gv_journal.specs.Applying.{met}
-use Rattle.gv_journal.specs.State.{FitsSpace}
+use Rattle.gv_journal.specs.Fits.{FitsSpace}
 use Rattle.gv_journal.specs.Withdrawing.{after_restore, after_withdrawal, list_before, ops_at, IsWithdrawn}
 use Rattle.gv_journal.specs.declared.item.ItemKind.{ItemKind}
 use Rattle.gv_vm.specs.Jobs.{JobState, AreHeld}
 use Rattle.gv_vm.specs.State.{VmState, IsVm, WasTold, SawItsWaits}
-use Rattle.gv_vm.proofs.Vms.{IsVm-of, AreHeld-by_count}
+use Rattle.gv_vm.proofs.VmInvariant.{IsVm-of, AreHeld-by_count}
 
 AreHeld-after_withdrawal : (before : List Mapping) (ops : List PageOp) (s : SpaceState) (js : List JobState) → AreHeld s.buffers js → AreHeld (after_withdrawal before ops s).buffers js
 AreHeld-after_withdrawal before [] s js held = held

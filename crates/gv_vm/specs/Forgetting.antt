@@ -15,14 +15,14 @@ is_told_below queue to (Bind q number request seen done) = q == queue && nat_lt 
 is_told_below queue to (Withdrawal of) = false
 
 -- the least held entry of a queue whose number is below this one: its outcome stays
-abbrev pub held_below : JournalState → ℕ → ℕ → Option ℕ
-held_below j queue to = option_map (λ index. j.first + index) (position (λ item. is_told_below queue to item.kind) (reverse j.items))
+abbrev pub least_held_below : JournalState → ℕ → ℕ → Option ℕ
+least_held_below j queue to = option_map (λ index. j.first + index) (position (λ item. is_told_below queue to item.kind) (reverse j.items))
 
 -- why the outcomes of a queue below a number aren't forgotten
 abbrev pub forget_fault : VmState → ℕ → ℕ → Option Fault
 forget_fault v queue to =
     if nat_le (length v.told) queue || nat_lt to (forgotten_of v queue) || nat_lt (length (told_to v.told queue)) to then Some NoOutcome
-    else option_map (λ by. Held by) (held_below v.journal queue to)
+    else option_map (λ by. Held by) (least_held_below v.journal queue to)
 
 -- the outcomes of a queue below a number are forgotten
 abbrev pub with_forgotten : VmState → ℕ → ℕ → VmState

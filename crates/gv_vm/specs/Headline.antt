@@ -9,7 +9,7 @@ use Rattle.gv_types.specs.Page.{IsPage}
 use Rattle.gv_types.specs.declared.mapping.BufferId.{BufferId}
 use Rattle.gv_types.specs.declared.mapping.Entry.{Entry}
 use Rattle.gv_ranges.specs.List.{at}
-use Rattle.gv_table.specs.Table.{IsTree, IsHeldAt}
+use Rattle.gv_table.specs.Table.{IsTree, IsEntryAt}
 use Rattle.gv_table.specs.declared.page_table.PageTable.{PageTable}
 use Rattle.gv_buffers.specs.Buffers.{uses, kept}
 use Rattle.gv_space.specs.Counts.{count_of}
@@ -31,7 +31,7 @@ abbrev pub EachPageTranslates : VmState → Type 0
 EachPageTranslates v =
     (page : ℕ) → IsPage page →
     (at v.space.mappings page ≡ view (entries v.journal) (base v.space.mappings v.journal.items) page)
-    × ((table : PageTable) (held : Option Entry) → IsTree v.space.mappings table → IsHeldAt table page held → held ≡ at v.space.mappings page)
+    × ((table : PageTable) (held : Option Entry) → IsTree v.space.mappings table → IsEntryAt table page held → held ≡ at v.space.mappings page)
 
 -- the list with its boundaries, every page table of it, the uses and the kept mappings of every buffer, and the items are
 -- equal to those before

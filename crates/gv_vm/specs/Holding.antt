@@ -4,7 +4,7 @@ use Rattle.gv_types.specs.declared.mapping.Mapping.{Mapping}
 use Rattle.gv_buffers.specs.Buffers.{left_everywhere}
 use Rattle.gv_space.specs.State.{SpaceState, AreKept}
 use Rattle.gv_vm.specs.Places.{place_at}
-use Rattle.gv_vm.specs.Jobs.{accesses_fault, all_held}
+use Rattle.gv_vm.specs.Jobs.{accesses_fault, with_all_held}
 use Rattle.gv_vm.specs.declared.jobs.Access.{Access}
 use Rattle.gv_vm.specs.declared.places.Place.{Place}
 
@@ -13,7 +13,7 @@ pub record HoldsSoFar (old s : SpaceState) (job n : ℕ) (accesses : List Access
   pub start : n ≡ 0 → s.buffers ≡ old.buffers
   pub rest : s ≡ record old { buffers = s.buffers }
   pub faults : accesses_fault old.mappings job s.buffers n (drop n accesses) ≡ accesses_fault old.mappings job old.buffers 0 accesses
-  pub holds : all_held old.mappings job (drop n accesses) s.buffers ≡ all_held old.mappings job accesses old.buffers
+  pub holds : with_all_held old.mappings job (drop n accesses) s.buffers ≡ with_all_held old.mappings job accesses old.buffers
   pub left : left_everywhere job s.buffers ≡ left_everywhere job old.buffers
   pub first : 0 < n → accesses_fault old.mappings job old.buffers 0 (take 1 accesses) ≡ None
   pub found : map Some places ≡ map (λ access. place_at old.mappings access.addr) (take n accesses)

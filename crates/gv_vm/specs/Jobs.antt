@@ -73,27 +73,27 @@ abbrev pub access_fault : List Mapping → ℕ → BuffersState → ℕ → Acce
 access_fault ms job t n access = place_fault t job n access.usage (place_at ms access.addr)
 
 -- the buffers once a job holds what stands behind its place
-abbrev pub target_held : ℕ → Usage → Target → BuffersState → BuffersState
-target_held job usage (BufferByte id byte) t = changed id (joined_by job usage) t
-target_held job usage Zero t = t
+abbrev pub with_target_held : ℕ → Usage → Target → BuffersState → BuffersState
+with_target_held job usage (BufferByte id byte) t = changed id (joined_by job usage) t
+with_target_held job usage Zero t = t
 
-abbrev pub place_held : ℕ → Usage → Option Place → BuffersState → BuffersState
-place_held job usage None t = t
-place_held job usage (Some place) t = target_held job usage place.target t
+abbrev pub with_place_held : ℕ → Usage → Option Place → BuffersState → BuffersState
+with_place_held job usage None t = t
+with_place_held job usage (Some place) t = with_target_held job usage place.target t
 
-abbrev pub access_held : List Mapping → ℕ → Access → BuffersState → BuffersState
-access_held ms job access t = place_held job access.usage (place_at ms access.addr) t
+abbrev pub with_access_held : List Mapping → ℕ → Access → BuffersState → BuffersState
+with_access_held ms job access t = with_place_held job access.usage (place_at ms access.addr) t
 
 -- the first fault of a job's accesses, each met with what those before it hold; the first one of these has this number
 abbrev pub accesses_fault : List Mapping → ℕ → BuffersState → ℕ → List Access → Option Fault
 accesses_fault ms job t n [] = None
 accesses_fault ms job t n (access ∷ later) =
-    first_of (access_fault ms job t n access) (accesses_fault ms job (access_held ms job access t) (n + 1) later)
+    first_of (access_fault ms job t n access) (accesses_fault ms job (with_access_held ms job access t) (n + 1) later)
 
 -- the buffers once a job holds all that its accesses reach
-abbrev pub all_held : List Mapping → ℕ → List Access → BuffersState → BuffersState
-all_held ms job [] t = t
-all_held ms job (access ∷ later) t = all_held ms job later (access_held ms job access t)
+abbrev pub with_all_held : List Mapping → ℕ → List Access → BuffersState → BuffersState
+with_all_held ms job [] t = t
+with_all_held ms job (access ∷ later) t = with_all_held ms job later (with_access_held ms job access t)
 
 -- why no job of so many accesses can begin
 abbrev pub many_fault : JobsState → ℕ → Option Fault
@@ -126,7 +126,7 @@ pub record IsBegun (old new : SpaceState) (before after : JobsState) (accesses :
   pub number : job.number ≡ before.begun
   pub places : map Some job.places.items ≡ map (λ access. place_at old.mappings access.addr) accesses
   pub jobs : after ≡ record { begun = before.begun + 1; running = before.running ++ job_state job ∷ [] }
-  pub space : new ≡ record old { buffers = all_held old.mappings before.begun accesses old.buffers }
+  pub space : new ≡ record old { buffers = with_all_held old.mappings before.begun accesses old.buffers }
 
 -- why a job can't end
 abbrev pub end_fault : JobsState → ℕ → Option Fault

@@ -12,7 +12,7 @@ use Rattle.gv_vm.specs.Step.{CanBind, step}
 use Rattle.gv_vm.specs.Run.{IsRunOf, GoesOnWith, replied_to, replies_in}
 use Rattle.gv_vm.specs.Headline.{Says, Headline}
 use Rattle.gv_vm.specs.Alike.{AreAlikeWorlds, AreAlikeEvents, IsAmpleReply, StaysAlike}
-use Rattle.gv_vm.specs.Past.{no_past, past_from, raised_by, HasReachedAll, IsAfterPast}
+use Rattle.gv_vm.specs.QueueHistory.{no_history, history_from, raised_by, HasReachedAll, IsAfterHistory}
 use Rattle.gv_vm.specs.declared.event.Event.{Event}
 use Rattle.gv_vm.specs.declared.event.Event.TheVariants.{JobEnd}
 use Rattle.gv_vm.specs.declared.event.Reply.{Reply}
@@ -42,21 +42,21 @@ HeadlineGoesOn =
 abbrev pub RequestsStayInOrder : Type 0
 RequestsStayInOrder =
     (area : BoundsState) (limits : LimitsState) (queues depth timelines queue : ℕ) (events : List Event) (replies : List Reply) (w : WorldState)
-    → queues ≤ most_queues → IsRunOf (new_world area limits queues depth timelines) events replies w → IsAfterPast queue (past_from queue no_past events replies) w
+    → queues ≤ most_queues → IsRunOf (new_world area limits queues depth timelines) events replies w → IsAfterHistory queue (history_from queue no_history events replies) w
 
 -- so what is told next is of the request that was put with that number
 abbrev pub WhatIsToldWasPut : Type 0
 WhatIsToldWasPut =
     (area : BoundsState) (limits : LimitsState) (queues depth timelines queue : ℕ) (events : List Event) (replies : List Reply) (w : WorldState) (hand : HandState)
     → queues ≤ most_queues → IsRunOf (new_world area limits queues depth timelines) events replies w → (queue_at w queue).hand ≡ Some hand
-    → slice_get (past_from queue no_past events replies).puts (next_number w queue) ≡ Some hand.request
+    → slice_get (history_from queue no_history events replies).puts (next_number w queue) ≡ Some hand.request
 
 -- a request is carried out only where looks at all its waits reached them, since it was taken
 abbrev pub WaitsAreReachedFirst : Type 0
 WaitsAreReachedFirst =
     (area : BoundsState) (limits : LimitsState) (queues depth timelines queue : ℕ) (events : List Event) (replies : List Reply) (w : WorldState) (can : CanBind w queue)
     → queues ≤ most_queues → IsRunOf (new_world area limits queues depth timelines) events replies w
-    → HasReachedAll (past_from queue no_past events replies) can.has.hand.request
+    → HasReachedAll (history_from queue no_history events replies) can.has.hand.request
 
 -- no timeline falls, whatever is taken back
 abbrev pub NoTimelineFalls : Type 0

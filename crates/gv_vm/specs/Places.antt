@@ -30,9 +30,9 @@ abbrev pub place_at : List Mapping → ℕ → Option Place
 place_at ms addr = place_by (at ms) addr
 
 -- the page is one of a buffer, so its bytes have numbers that fit
-abbrev pub HasBytes : Backing → Type 0
-HasBytes (BufferPages id page) = page < pages_per_buffer
-HasBytes ZeroPages = Unit {0}
+abbrev pub BytesFit : Backing → Type 0
+BytesFit (BufferPages id page) = page < pages_per_buffer
+BytesFit ZeroPages = Unit {0}
 
 -- the first page behind a page that no longer belongs to it: where its mapping ends, or where it has none the next one begins, or
 -- the space ends

@@ -1,4 +1,4 @@
--- Plans: events that are asked of a world one after another, each the next one by the replies to those before it.
+-- Plans of events (not the split steps of an operation): events that are asked of a world one after another, each the next one by the replies to those before it.
 use Rattle.std.specs.Prelude.{◌≡◌, ℕ, Bool, true, false, if◌then◌else◌, List, [], ◌∷◌, ◌++◌, Option, Some, None}
 use Rattle.gv_types.specs.declared.request.Point.{Point}
 use Rattle.gv_types.specs.declared.request.Request.{Request}
@@ -10,8 +10,8 @@ use Rattle.gv_vm.specs.declared.event.Event.{Event}
 use Rattle.gv_vm.specs.declared.event.Event.TheVariants.{Put, Take, Look, Bind, GiveUp, Pay}
 use Rattle.gv_vm.specs.declared.event.Reply.{Reply}
 use Rattle.gv_vm.specs.declared.event.Reply.TheVariants.{Put as IsPut, Taken, Reached, Lacking, Told, Raised}
-use Rattle.gv_vm.specs.declared.event.Looked.{Looked}
-use Rattle.gv_vm.specs.declared.event.Looked.TheVariants.{AllReached, Lacked, Other}
+use Rattle.gv_vm.specs.declared.event.LookResult.{LookResult}
+use Rattle.gv_vm.specs.declared.event.LookResult.TheVariants.{NoneLacked, Lacked, Other}
 use Rattle.gv_vm.specs.declared.outcome.Outcome.TheVariants.{Accepted}
 
 -- the next event by the replies so far, the first reply first; none where all was asked
@@ -126,13 +126,13 @@ is_raised (Raised point now) = true
 is_raised reply = false
 
 -- what a look came to
-abbrev pub looked_of : Reply → Looked
-looked_of (Reached point seen) = AllReached
+abbrev pub looked_of : Reply → LookResult
+looked_of (Reached point seen) = NoneLacked
 looked_of (Lacking point have) = Lacked
 looked_of reply = Other
 
 -- how a request goes on after its looks
-abbrev pub after_looks : Bool → ℕ → List Point → Looked → Plan
-after_looks gives_up queue signals AllReached = carrying_out queue signals
+abbrev pub after_looks : Bool → ℕ → List Point → LookResult → Plan
+after_looks gives_up queue signals NoneLacked = carrying_out queue signals
 after_looks gives_up queue signals Lacked = lacking gives_up queue
 after_looks gives_up queue signals Other = nothing

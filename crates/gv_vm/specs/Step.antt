@@ -41,7 +41,7 @@ abbrev pub IsQueue : WorldState → ℕ → Type 0
 IsQueue w queue = queue < length w.queues
 
 -- a request is in hand
-pub record Has (w : WorldState) (queue : ℕ) : Type 0 where
+pub record HasHand (w : WorldState) (queue : ℕ) : Type 0 where
   pub there : IsQueue w queue
   pub hand : HandState
   pub is : (queue_at w queue).hand ≡ Some hand
@@ -55,7 +55,7 @@ pub record CanTake (w : WorldState) (queue : ℕ) : Type 0 where
 
 -- a wait of the request in hand is not reached
 pub record CanLook (w : WorldState) (queue : ℕ) : Type 0 where
-  pub has : Has w queue
+  pub has : HasHand w queue
   pub point : Point
   pub wait : next_wait has.hand ≡ Some point
 
@@ -66,12 +66,12 @@ pub record CanReach (w : WorldState) (queue : ℕ) : Type 0 where
 
 -- each of them is
 pub record CanBind (w : WorldState) (queue : ℕ) : Type 0 where
-  pub has : Has w queue
+  pub has : HasHand w queue
   pub reached : next_wait has.hand ≡ None
 
 -- the last look lacked
 pub record CanGiveUp (w : WorldState) (queue : ℕ) : Type 0 where
-  pub has : Has w queue
+  pub has : HasHand w queue
   pub saw : Sight
   pub lacked : has.hand.lacked ≡ Some saw
 

@@ -6,10 +6,10 @@ use Rattle.gv_journal.specs.Items.{JournalState}
 use Rattle.gv_journal.specs.declared.item.Item.{Item}
 
 -- the least entry held, where one is
-abbrev pub held_from : ℕ → List Item → Option Fault
-held_from first [] = None
-held_from first (item ∷ older) = Some (Held first)
+abbrev pub held_fault : ℕ → List Item → Option Fault
+held_fault first [] = None
+held_fault first (item ∷ older) = Some (Held first)
 
 -- why no room is given back: what could come back needs it
 abbrev pub trim_fault : JournalState → Option Fault
-trim_fault j = held_from j.first j.items
+trim_fault j = held_fault j.first j.items

@@ -1,6 +1,6 @@
 -- What a `Vm` keeps of its parts. No public clause cites this module.
 use Rattle.gv_vm.specs.State.{VmState, IsVm, roomless}
-use Rattle.gv_vm.specs.Telling.{lists_of, forgotten_in}
+use Rattle.gv_vm.specs.QueueOutcomes.{lists_of, forgotten_in}
 use Rattle.gv_vm.specs.declared.vm.Vm.TheInside.{Inside}
 
 -- its parts, with the room that there is

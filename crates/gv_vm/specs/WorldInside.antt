@@ -1,4 +1,4 @@
--- What a `WorldState` keeps of its parts. No public clause cites this module.
+-- What a `World` keeps of its parts. No public clause cites this module.
 use Rattle.gv_vm.specs.World.{WorldState}
 use Rattle.gv_vm.specs.Queues.{AreQueues}
 use Rattle.gv_vm.specs.declared.world.World.TheInside.{Inside}

@@ -1,7 +1,7 @@
 //! A request carried out on an address space and its journal.
 ghost use Rattle.std.specs.Prelude.{◌≡◌, ◌≤◌, map, take, IfOk, OnOk};
 ghost use Rattle.std.specs.List.{All};
-ghost use Rattle.gv_journal.specs.State.{FitsSpace};
+ghost use Rattle.gv_journal.specs.Fits.{FitsSpace};
 ghost use Rattle.gv_vm.specs.State.{roomless};
 ghost use Rattle.gv_vm.specs.BindOutcome.{CameTo, seen_by};
 

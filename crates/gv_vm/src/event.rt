@@ -64,8 +64,8 @@ pub enum Reply {
 
 /// The result of a look, or of all looks of a request.
 #[derive(Clone, Copy, Debug, PartialEq, Eq)]
-pub enum Looked {
-    AllReached,
+pub enum LookResult {
+    NoneLacked,
     Lacked,
     /// The world answered otherwise: there is no more to do.
     Other,
@@ -116,13 +116,13 @@ impl Reply {
     }
 
     /// The result of a look.
-    pub fn looked(&self) -> Looked
+    pub fn looked(&self) -> LookResult
         ensures { result ≡ looked_of self.now }
     {
         match self {
-            Reply::Reached { .. } => Looked::AllReached,
-            Reply::Lacking { .. } => Looked::Lacked,
-            _ => Looked::Other,
+            Reply::Reached { .. } => LookResult::NoneLacked,
+            Reply::Lacking { .. } => LookResult::Lacked,
+            _ => LookResult::Other,
         }
     }
 }

@@ -5,8 +5,8 @@ ghost use Rattle.gv_types.specs.declared.mapping.Mapping.{Mapping};
 ghost use Rattle.gv_buffers.specs.Buffers.{left_everywhere};
 ghost use Rattle.gv_space.specs.State.{AreKept};
 ghost use Rattle.gv_vm.specs.Places.{place_at};
-ghost use Rattle.gv_vm.specs.Jobs.{access_fault, access_held, target_fault, target_held};
-ghost use Rattle.gv_vm.specs.Jobs.{accesses_fault, all_held, AreRefused};
+ghost use Rattle.gv_vm.specs.Jobs.{access_fault, with_access_held, target_fault, with_target_held};
+ghost use Rattle.gv_vm.specs.Jobs.{accesses_fault, with_all_held, AreRefused};
 
 use crate::jobs::Access;
 use crate::places::{Place, Target, translate};
@@ -29,7 +29,7 @@ fn hold(
         (IsOkUnless result Fault.OutOfMemory) (λ fault. result ≡ Err fault) }
     ensures place { IfOk result (λ place. place_at space.old.mappings access.now.addr ≡ Some place) }
     ensures ok { OnOk result (space.new
-        ≡ record space.old { buffers = access_held space.old.mappings job access.now space.old.buffers }) }
+        ≡ record space.old { buffers = with_access_held space.old.mappings job access.now space.old.buffers }) }
     ensures err { OnErr result (space.new ≡ space.old) }
     ensures left { left_everywhere job space.new.buffers ≡ left_everywhere job space.old.buffers }
     ensures kept { (ms : List Mapping) → AreKept space.old ms → AreKept space.new ms }
@@ -55,7 +55,7 @@ fn hold_target(
     ensures fault { MatchOption (target_fault space.old.buffers job usage target)
         (IsOkUnless result Fault.OutOfMemory) (λ fault. result ≡ Err fault) }
     ensures ok { OnOk result (space.new
-        ≡ record space.old { buffers = target_held job usage target space.old.buffers }) }
+        ≡ record space.old { buffers = with_target_held job usage target space.old.buffers }) }
     ensures err { OnErr result (space.new ≡ space.old) }
     ensures left { left_everywhere job space.new.buffers ≡ left_everywhere job space.old.buffers }
     ensures kept { (ms : List Mapping) → AreKept space.old ms → AreKept space.new ms }
@@ -80,7 +80,7 @@ pub fn hold_all(
     ensures places { IfOk result (λ places. map Some places.items
         ≡ map (λ access. place_at space.old.mappings access.addr) accesses.now) }
     ensures ok { OnOk result (space.new
-        ≡ record space.old { buffers = all_held space.old.mappings job accesses.now space.old.buffers }) }
+        ≡ record space.old { buffers = with_all_held space.old.mappings job accesses.now space.old.buffers }) }
     ensures refused { IfErr result
         (AreRefused space.old.mappings job space.old.buffers accesses.now) }
     ensures rest { space.new ≡ record space.old { buffers = space.new.buffers } }

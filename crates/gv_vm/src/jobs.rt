@@ -7,9 +7,9 @@ ghost use Rattle.gv_types.specs.declared.mapping.Mapping.{Mapping};
 ghost use Rattle.gv_space.specs.State.{AreKept};
 ghost use Rattle.gv_buffers.specs.Buffers.{left_everywhere};
 ghost use Rattle.gv_vm.specs.Places.{place_at};
-ghost use Rattle.gv_vm.specs.Jobs.{access_fault, access_held, target_fault, target_held, accesses_fault, all_held, AreRefused};
+ghost use Rattle.gv_vm.specs.Jobs.{access_fault, with_access_held, target_fault, with_target_held, accesses_fault, with_all_held, AreRefused};
 ghost use Rattle.gv_vm.specs.Jobs.{runs, job_state};
-ghost use Rattle.gv_vm.specs.Inside.{AreAscending, IsAt};
+ghost use Rattle.gv_vm.specs.JobsInside.{AreAscending, IsAt};
 
 use crate::holding::hold_all;
 use crate::places::Place;
@@ -50,7 +50,7 @@ pub struct Jobs {
 
 impl Model for Jobs {
     ghost use Rattle.gv_vm.specs.Jobs.{JobsState};
-    ghost use Rattle.gv_vm.specs.Inside.{running_of, AreSoundJobs};
+    ghost use Rattle.gv_vm.specs.JobsInside.{running_of, AreSoundJobs};
 
     ghost Value = { JobsState };
 
@@ -86,8 +86,8 @@ impl Jobs {
     pub fn places(&self, number: u64) -> Option<&[Place]>
         ensures { option_copied result ≡ places_in self.now.running number }
     {
-        match place_of(&self.running, number) {
-            Some(place) => Some(self.running[place].places.as_slice()),
+        match position_of(&self.running, number) {
+            Some(position) => Some(self.running[position].places.as_slice()),
             None => None,
         }
     }
@@ -214,9 +214,9 @@ impl Jobs {
         ensures jobs { self.new ≡ record self.old { running = without_job number self.old.running } }
         ensures gone { All (λ j. j.number ≢ number) self.new.running }
     {
-        match place_of(&self.running, number) {
-            Some(place) => {
-                let _ended = self.running.remove(place);
+        match position_of(&self.running, number) {
+            Some(position) => {
+                let _ended = self.running.remove(position);
                 true
             }
             None => false,
@@ -225,13 +225,13 @@ impl Jobs {
 }
 
 /// The index of the job with this number. None if no such job runs.
-fn place_of(running: &[Job], number: u64) -> Option<usize>
+fn position_of(running: &[Job], number: u64) -> Option<usize>
     requires { AreAscending running.now }
     ensures some { IfSome result (IsAt running.now number) }
     ensures none { IfNone result (runs (map job_state running.now) number ≡ false) }
 {
     match running.binary_search_by_key(&number, |job| job.number) {
-        Ok(place) => Some(place),
+        Ok(position) => Some(position),
         Err(_) => None,
     }
 }

@@ -13,12 +13,12 @@
 //! the machine alone.
 #![tactic(auto)]
 
-mod ahead;
 mod dispatch;
 mod event;
 mod holding;
 mod jobs;
 pub mod laws;
+mod next_turn;
 mod outcome;
 mod places;
 mod queue;
@@ -27,11 +27,11 @@ mod told;
 mod vm;
 mod world;
 
-pub use event::{Event, Looked, Reply};
+pub use event::{Event, LookResult, Reply};
 pub use jobs::{Access, Job, MAX_ACCESSES, MAX_RUNNING};
 pub use outcome::{NotTold, Outcome};
 pub use places::{Place, Stretch, Target};
 pub use sizes::Sizes;
 pub use told::QUEUES;
 pub use vm::{PastItem, Vm};
-pub use world::{Stopped, Turn, World};
+pub use world::{Stopped, TurnResult, World};

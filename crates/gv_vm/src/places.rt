@@ -4,7 +4,7 @@ ghost use Rattle.gv_types.specs.Page.{PAGES, bytes_per_page};
 ghost use Rattle.gv_types.specs.PageRange.{covers, end_of};
 ghost use Rattle.gv_types.specs.Operation.{own_part, range_of};
 ghost use Rattle.gv_ranges.specs.List.{at, IsLaidOut};
-ghost use Rattle.gv_vm.specs.Places.{place_at, place_by, place_of, run_of, stretch_end, target_of, HasBytes};
+ghost use Rattle.gv_vm.specs.Places.{place_at, place_by, place_of, run_of, stretch_end, target_of, BytesFit};
 
 use gv_ranges::RangeList;
 use gv_space::Space;
@@ -35,7 +35,7 @@ pub struct Stretch {
 impl Target {
     /// What is `rest` bytes after the first byte of a backing's first page.
     fn of(backing: Backing, rest: u64) -> Target
-        requires backing { HasBytes backing }
+        requires backing { BytesFit backing }
         requires rest { rest < bytes_per_page }
         ensures { result ≡ target_of backing rest }
     {
@@ -52,7 +52,7 @@ impl Target {
 impl Place {
     /// What the byte reaches that is `rest` bytes after the start of a page.
     pub(crate) fn of(entry: Entry, rest: u64) -> Place
-        requires backing { HasBytes entry.backing }
+        requires backing { BytesFit entry.backing }
         requires rest { rest < bytes_per_page }
         ensures { result ≡ place_of entry rest }
     {
@@ -79,7 +79,7 @@ pub fn translate(space: &Space, addr: u64) -> Option<Place>
 /// What an address, in bytes, reaches by an operation that covers its page. None by an unmap.
 pub fn place_by(op: &PageOp, addr: u64) -> Option<Place>
     requires covered { IsTrue (covers (range_of op.now) (addr / bytes_per_page)) }
-    requires bytes { IfSome (own_part op.now (addr / bytes_per_page)) (λ e. HasBytes e.backing) }
+    requires bytes { IfSome (own_part op.now (addr / bytes_per_page)) (λ e. BytesFit e.backing) }
     ensures { result ≡ place_by (own_part op.now) addr }
 {
     match *op {
@@ -130,7 +130,7 @@ fn held_until(list: &RangeList, page: u64) -> (Option<Entry>, u64)
     ensures behind { page < result.1 }
     ensures in_space { result.1 ≤ PAGES }
 {
-    let Some(m) = list.first_behind(page) else {
+    let Some(m) = list.first_ending_after(page) else {
         return (None, SPACE_PAGES);
     };
     if page < m.first() {

@@ -4,10 +4,10 @@ ghost use Rattle.std.specs.VecDeque.{deque_len, deque_capacity};
 ghost use Rattle.gv_types.specs.declared.request.Point.{Point};
 ghost use Rattle.gv_vm.specs.World.{new_queue, taken, put_fault_of, next_wait};
 ghost use Rattle.gv_vm.specs.Queues.{IsInOrder};
-ghost use Rattle.gv_vm.specs.TurnInside.{AreLeft, IsLeftIn};
-ghost use Rattle.gv_vm.specs.Turns.{MayTake, TookFront, wait_of, with_reached, with_lacked, IsReadyToBind, IsLacking, without_hand, PaidFirst};
+ghost use Rattle.gv_vm.specs.TurnParts.{AreRemaining, IsRemainingIn};
+ghost use Rattle.gv_vm.specs.QueueEvents.{MayTake, TookFront, wait_of, with_reached, with_lacked, IsReadyToBind, IsLacking, without_hand, PaidFirst};
 
-use crate::ahead::{Ahead, Left};
+use crate::next_turn::{NextTurn, Remaining};
 use crate::outcome::NotTold;
 use gv_sync::{Lacking, Reached};
 use gv_types::{Fault, OutOfMemory, Point, Request};
@@ -36,7 +36,7 @@ impl Model for Hand {
 }
 
 /// How many places the first request makes.
-const FIRST_PLACES: usize = 4;
+const FIRST_SLOTS: usize = 4;
 
 /// One queue. Room for requests is made as they come. The signals owed are stored with the first one last.
 #[derive(Drop)]
@@ -68,11 +68,11 @@ impl Hand {
         self.request.waits.get(self.reached.len()).copied()
     }
 
-    /// What is left of its request.
-    fn left(&self) -> Left
-        ensures { (result.in_hand ≡ true) × AreLeft (drop (length self.now.reached) self.now.request.waits.items) self.now.request.signals.items result }
+    /// What remains of its request.
+    fn remaining(&self) -> Remaining
+        ensures { (result.in_hand ≡ true) × AreRemaining (drop (length self.now.reached) self.now.request.waits.items) self.now.request.signals.items result }
     {
-        Left {
+        Remaining {
             in_hand: true,
             waits: self.request.waits.len().saturating_sub(self.reached.len()),
             signals: self.request.signals.len(),
@@ -92,7 +92,7 @@ impl Hand {
         Ok(())
     }
 
-    /// A look at the first wait that is left found it not reached.
+    /// A look at the first wait that remains found it not reached.
     pub fn lack(&mut self, lacking: Lacking)
         requires { next_wait self.old ≡ Some lacking.point }
         ensures { self.new ≡ record self.old { lacked = Some lacking } }
@@ -197,7 +197,7 @@ impl Queue {
     }
 
     /// Hands out the request in hand, if each of its waits is reached.
-    pub fn ready(&mut self) -> Option<Hand>
+    pub fn take_ready(&mut self) -> Option<Hand>
         ensures not { IfNone result (IsReadyToBind self.old → ⊥) }
         ensures same { IfNone result (self.new ≡ self.old) }
         ensures hand { IfSome result (λ hand. self.old.hand ≡ Some hand) }
@@ -216,7 +216,7 @@ impl Queue {
     }
 
     /// Hands out the request in hand, if the wait of its last look was not reached.
-    pub fn lacking(&mut self) -> Option<Hand>
+    pub fn take_lacking(&mut self) -> Option<Hand>
         ensures not { IfNone result (IsLacking self.old → ⊥) }
         ensures same { IfNone result (self.new ≡ self.old) }
         ensures hand { IfSome result (λ hand. self.old.hand ≡ Some hand) }
@@ -248,19 +248,19 @@ impl Queue {
         self.owed = signals;
     }
 
-    /// What is left to do in its next turn.
-    pub fn ahead(&self) -> Ahead
+    /// What remains to do in its next turn.
+    pub fn next_turn(&self) -> NextTurn
         ensures owed { length self.now.owed ≡ result.owed }
-        ensures left { IsLeftIn self.now.hand self.now.waiting result.left }
+        ensures remaining { IsRemainingIn self.now.hand self.now.waiting result.remaining }
     {
-        let left = match (&self.hand, self.waiting.front()) {
-            (Some(hand), _) => Some(hand.left()),
-            (None, Some(request)) => Some(Left::waiting(request)),
+        let remaining = match (&self.hand, self.waiting.front()) {
+            (Some(hand), _) => Some(hand.remaining()),
+            (None, Some(request)) => Some(Remaining::waiting(request)),
             (None, None) => None,
         };
-        Ahead {
+        NextTurn {
             owed: self.owed.len(),
-            left,
+            remaining,
         }
     }
 
@@ -286,7 +286,7 @@ fn push(waiting: &mut VecDeque<Request>, request: Request) -> Result<(), NotTold
 {
     let len = waiting.len();
     if len == waiting.capacity() {
-        let wanted = len.saturating_mul(2).max(FIRST_PLACES);
+        let wanted = len.saturating_mul(2).max(FIRST_SLOTS);
         if waiting.reserve_exact(wanted - len).is_err() {
             return Err(NotTold {
                 fault: Fault::OutOfMemory,

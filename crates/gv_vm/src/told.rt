@@ -1,7 +1,7 @@
-//! The outcomes of each queue.
+//! What each queue was told: the outcomes of its requests, in order.
 ghost use Rattle.std.specs.Prelude.{◌≡◌, ◌<◌, ◌≤◌, ◌++◌, ◌∷◌, min, replicate, length, take, drop, [], IfOk, IsOkUnless, OnOk, MatchOption};
 ghost use Rattle.gv_vm.specs.Outcomes.{queues, with_outcome, tell_fault, forgotten_outcome, lifetime_told};
-ghost use Rattle.gv_vm.specs.Telling.{lists_of, forgotten_in, HasRoomToTell, HaveQueue};
+ghost use Rattle.gv_vm.specs.QueueOutcomes.{lists_of, forgotten_in, HasRoomToTell, HaveQueue};
 
 use crate::outcome::Outcome;
 use gv_types::{Fault, OutOfMemory};
@@ -17,31 +17,31 @@ pub const LIFETIME_TOLD: u64 = 1 << 63;
 /// The outcomes of a queue. The first `first` of them are forgotten. The last `gone` of these are still in the list: they are
 /// removed once they are at least half of it.
 #[derive(Drop)]
-pub struct Told {
+pub struct QueueOutcomes {
     first: u64,
     gone: usize,
     outcomes: Vec<Outcome>,
 }
 
-impl Model for Told {
-    ghost use Rattle.gv_vm.specs.Telling.{ToldState, told_of, IsSoundTold};
+impl Model for QueueOutcomes {
+    ghost use Rattle.gv_vm.specs.QueueOutcomes.{QueueOutcomesState, told_of, IsSoundTold};
 
-    ghost Value = { ToldState };
+    ghost Value = { QueueOutcomesState };
 
     ghost view = { told_of };
 
     ghost invariant = { IsSoundTold };
 }
 
-impl Told {
-    ghost use Rattle.gv_vm.specs.Telling.{HasSlot};
+impl QueueOutcomes {
+    ghost use Rattle.gv_vm.specs.QueueOutcomes.{HasSlot};
 
     /// No outcome. It takes no memory.
-    fn new(alloc: Global) -> Told
+    fn new(alloc: Global) -> QueueOutcomes
         ensures list { result.list ≡ [] }
         ensures forgotten { result.forgotten ≡ 0 }
     {
-        Told {
+        QueueOutcomes {
             first: 0,
             gone: 0,
             outcomes: Vec::new(alloc),
@@ -135,19 +135,19 @@ impl Told {
 }
 
 /// `QUEUES` queues without outcomes.
-pub fn nothing_told(alloc: Global) -> Result<Vec<Told>, OutOfMemory>
+pub fn nothing_told(alloc: Global) -> Result<Vec<QueueOutcomes>, OutOfMemory>
     ensures none { IfOk result (λ told. lists_of told ≡ replicate queues []) }
     ensures forgotten { IfOk result (λ told. forgotten_in told ≡ replicate queues 0) }
 {
     let mut told = Vec::with_capacity(alloc, QUEUES)?;
     for queue in 0..QUEUES {
-        told.push_reserved(Told::new(alloc));
+        told.push_reserved(QueueOutcomes::new(alloc));
     }
     Ok(told)
 }
 
 /// Frees the memory that no outcome needs.
-pub fn shrink_all(told: &mut Vec<Told>)
+pub fn shrink_all(told: &mut Vec<QueueOutcomes>)
     ensures list { lists_of told.new ≡ lists_of told.old }
     ensures forgotten { forgotten_in told.new ≡ forgotten_in told.old }
 {
@@ -158,7 +158,12 @@ pub fn shrink_all(told: &mut Vec<Told>)
 
 /// Makes room for a queue's outcome with this number. `QueueSpent` if the queue has the limit of outcomes, `OutOfTurn`
 /// with the next number if this is another, then `OutOfMemory`.
-pub fn prepare(told: &mut Vec<Told>, limit: u64, queue: u64, number: u64) -> Result<(), Fault>
+pub fn prepare(
+    told: &mut Vec<QueueOutcomes>,
+    limit: u64,
+    queue: u64,
+    number: u64,
+) -> Result<(), Fault>
     requires queue { HaveQueue told.old queue }
     requires limit { limit ≤ lifetime_told }
     ensures fault { MatchOption (tell_fault limit (lists_of told.old) queue number)
@@ -179,7 +184,7 @@ pub fn prepare(told: &mut Vec<Told>, limit: u64, queue: u64, number: u64) -> Res
 }
 
 /// Adds an outcome to a queue, for which there is room.
-pub fn tell(told: &mut Vec<Told>, queue: u64, outcome: Outcome)
+pub fn tell(told: &mut Vec<QueueOutcomes>, queue: u64, outcome: Outcome)
     requires queue { HaveQueue told.old queue }
     requires room { HasRoomToTell told.old queue }
     ensures list { lists_of told.new ≡ with_outcome (lists_of told.old) queue outcome }

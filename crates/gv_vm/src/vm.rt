@@ -14,7 +14,7 @@ use crate::dispatch::{dispatch, seen_of};
 use crate::jobs::{Access, Job, Jobs};
 use crate::outcome::{NotTold, Outcome};
 use crate::places::{Place, Stretch, find, translate};
-use crate::told::{Told, nothing_told, prepare, tell};
+use crate::told::{QueueOutcomes, nothing_told, prepare, tell};
 use gv_journal::{Item, Journal, ReadyRequest};
 use gv_space::Space;
 use gv_split::Step;
@@ -38,7 +38,7 @@ pub struct Vm {
     space: Space,
     journal: Journal,
     jobs: Jobs,
-    told: Vec<Told>,
+    told: Vec<QueueOutcomes>,
 }
 
 impl Model for Vm {

@@ -20,7 +20,7 @@ mod run;
 mod turn;
 
 pub use run::Stopped;
-pub use turn::Turn;
+pub use turn::TurnResult;
 
 /// One address space with the requests that wait for it. It owns a `Vm`, so it is not `Drop`: the compiler rejects a program
 /// that drops one without closing it.

@@ -64,9 +64,9 @@ impl Chance {
     /// The number of an entry, or of one that is not held.
     fn entry(&mut self) -> u64 {
         let held = self.sight.next.saturating_sub(self.sight.first);
-        let place = self.random.below(held.saturating_add(1));
+        let index = self.random.below(held.saturating_add(1));
         let less = u64::from(self.random.is_one_in(20));
-        self.sight.first.saturating_add(place).saturating_sub(less)
+        self.sight.first.saturating_add(index).saturating_sub(less)
     }
 
     fn queue(&mut self) -> u64 {

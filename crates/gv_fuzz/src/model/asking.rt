@@ -5,7 +5,7 @@ use super::names::{id_of, name_at};
 use super::tables::tables;
 use super::text::{write_list, write_outcome, write_refused};
 use super::world::World;
-use gv_model::{Kind, Past, count_of};
+use gv_model::{HistoryEntry, Kind, count_of};
 use gv_types::{Fault, OutOfMemory};
 use std::alloc::{AllocError, Global};
 use std::fmt::Write;
@@ -13,7 +13,7 @@ use std::fmt::Write;
 impl World {
     /// Writes what is asked for.
     pub fn ask(&self, alloc: Global, said: &Said, out: &mut String) -> Result<(), OutOfMemory> {
-        let list = self.model.ground.list.as_slice();
+        let list = self.model.space.list.as_slice();
         match said.verb {
             Verb::Uses => return self.write_uses(alloc, said.first(), out),
             Verb::Told => self.write_told(alloc, said.first(), out)?,
@@ -26,28 +26,28 @@ impl World {
     }
 
     /// Writes how many mappings of a buffer are in the list, and how many entries keep.
-    fn write_uses(&self, alloc: Global, place: u64, out: &mut String) -> Result<(), OutOfMemory> {
-        let ground = &self.model.ground;
-        let id = id_of(place);
-        if ground.alive(&id).is_none() {
+    fn write_uses(&self, alloc: Global, index: u64, out: &mut String) -> Result<(), OutOfMemory> {
+        let space_model = &self.model.space;
+        let id = id_of(index);
+        if space_model.alive(&id).is_none() {
             write_refused(alloc, out, &Fault::NoBuffer)?;
             return Ok(());
         }
-        let uses = count_of(&ground.list, &id);
-        let kept = ground.history.kept(alloc, &id)?;
+        let uses = count_of(&space_model.list, &id);
+        let kept = space_model.history.kept(alloc, &id)?;
         writeln!(out, "uses {uses} kept {kept}")?;
         Ok(())
     }
 
     /// Writes the number of a timeline.
-    fn write_value(&self, place: u64, out: &mut String) -> Result<(), AllocError> {
-        let name = name_at(&self.names.timelines, place);
-        let number = self.model.numbers.get(place as usize).copied().unwrap_or(0);
+    fn write_value(&self, index: u64, out: &mut String) -> Result<(), AllocError> {
+        let name = name_at(&self.names.timelines, index);
+        let number = self.model.numbers.get(index as usize).copied().unwrap_or(0);
         writeln!(out, "{name} {number}")
     }
 
     fn write_journal(&self, out: &mut String) -> Result<(), AllocError> {
-        let history = &self.model.ground.history;
+        let history = &self.model.space.history;
         if history.entries.is_empty() {
             out.push_str("empty\n")?;
         }
@@ -78,7 +78,7 @@ impl World {
 fn write_entry(
     out: &mut String,
     entry: u64,
-    past: &Past,
+    past: &HistoryEntry,
     is_withdrawn: bool,
 ) -> Result<(), AllocError> {
     let state = if is_withdrawn { "withdrawn" } else { "live" };

@@ -1,6 +1,6 @@
-//! The words of a line, read by its form. Names stand for their places.
+//! The words of a line, read by its form. A name is read as its index.
 use super::forms::{Form, Verb};
-use super::names::{Names, id_of, place_of};
+use super::names::{Names, id_of, index_of};
 use gv_types::{Flags, Op, Point};
 
 /// So many queues there are.
@@ -35,8 +35,8 @@ fn number_for(names: &Names, letter: u8, word: Option<&str>) -> Option<u64> {
         (b'n', Some(word)) => number_of(word),
         (b'q', Some(word)) => number_of(word).filter(|queue| *queue < QUEUES),
         (b'd', Some(word)) => decimal_of(word).filter(|queue| *queue < QUEUES),
-        (b'b', Some(word)) => place_of(&names.buffers, word),
-        (b't', Some(word)) => place_of(&names.timelines, word),
+        (b'b', Some(word)) => index_of(&names.buffers, word),
+        (b't', Some(word)) => index_of(&names.timelines, word),
         (_, word) => word.filter(is_name).map(|_| 0),
     }
 }
@@ -55,10 +55,10 @@ fn is_name(word: &&str) -> bool {
     is_short && *word != "zero" && word.bytes().enumerate().all(is_name_byte)
 }
 
-fn is_name_byte((place, byte): (usize, u8)) -> bool {
+fn is_name_byte((index, byte): (usize, u8)) -> bool {
     match byte {
         b'a'..=b'z' => true,
-        b'0'..=b'9' | b'_' => place > 0,
+        b'0'..=b'9' | b'_' => index > 0,
         _ => false,
     }
 }

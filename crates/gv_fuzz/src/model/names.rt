@@ -8,21 +8,21 @@ pub struct Names {
     pub timelines: Vec<String>,
 }
 
-/// The place of a name.
-pub fn place_of(names: &[String], wanted: &str) -> Option<u64> {
-    let place = names.iter().position(|name| name.as_str() == wanted)?;
-    Some(place as u64)
+/// The index of a name.
+pub fn index_of(names: &[String], wanted: &str) -> Option<u64> {
+    let index = names.iter().position(|name| name.as_str() == wanted)?;
+    Some(index as u64)
 }
 
-/// The name at a place.
-pub fn name_at(names: &[String], place: u64) -> &str {
-    match names.get(place as usize) {
+/// The name at an index.
+pub fn name_at(names: &[String], index: u64) -> &str {
+    match names.get(index as usize) {
         Some(name) => name.as_str(),
         None => "",
     }
 }
 
-/// The id that the model gives to the buffer at a place.
-pub fn id_of(place: u64) -> BufferId {
-    BufferId::new(u32::MAX, place)
+/// The id that the model gives to the buffer at an index.
+pub fn id_of(index: u64) -> BufferId {
+    BufferId::new(u32::MAX, index)
 }

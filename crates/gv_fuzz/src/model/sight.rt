@@ -1,4 +1,4 @@
-//! What chance may want to know of a world, to name what there is.
+//! What a line by chance may name: how many buffers, timelines, entries and jobs there are.
 use super::world::World;
 
 /// How many buffers and timelines are declared, which entries are held, and how many jobs were begun.
@@ -24,7 +24,7 @@ impl Sight {
     }
 
     pub fn of(world: &World) -> Sight {
-        let history = &world.model.ground.history;
+        let history = &world.model.space.history;
         Sight {
             buffers: world.names.buffers.len() as u64,
             timelines: world.names.timelines.len() as u64,

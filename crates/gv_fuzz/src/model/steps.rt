@@ -1,26 +1,30 @@
 //! What a plan of an operation says: the mappings that it takes out or cuts, and the one that it puts in.
 use super::names::Names;
 use super::text::write_mapping;
-use gv_model::{Ground, changed, range_of};
+use gv_model::{SpaceModel, changed, range_of};
 use gv_types::{Backing, Fault, Mapping, Op, OutOfMemory, PageOp, PageRange};
 use std::alloc::Global;
 
 /// The operation in pages, or its fault.
-pub fn planned(ground: &Ground, op: &Op) -> Result<PageOp, Fault> {
-    let checked = ground.bounds.check(op)?;
+pub fn op_in_pages(space_model: &SpaceModel, op: &Op) -> Result<PageOp, Fault> {
+    let checked = space_model.bounds.check(op)?;
     match &checked {
-        PageOp::Map { range, backing, .. } => check_buffer(ground, *range, backing)?,
+        PageOp::Map { range, backing, .. } => check_buffer(space_model, *range, backing)?,
         _ => {}
     }
     Ok(checked)
 }
 
 /// Whether a map of a range lies in its buffer.
-fn check_buffer(ground: &Ground, range: PageRange, backing: &Backing) -> Result<(), Fault> {
+fn check_buffer(
+    space_model: &SpaceModel,
+    range: PageRange,
+    backing: &Backing,
+) -> Result<(), Fault> {
     let Backing::Buffer { id, page } = backing else {
         return Ok(());
     };
-    let Some(made) = ground.alive(id) else {
+    let Some(made) = space_model.alive(id) else {
         return Err(Fault::NoBuffer);
     };
     if page.saturating_add(range.count()) > made.pages {

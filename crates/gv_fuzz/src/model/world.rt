@@ -2,9 +2,9 @@
 use super::area::{Area, are_limits};
 use super::forms::{LINES, RANGES, Verb};
 use super::grammar::{Said, said_by};
-use super::names::{Names, id_of, place_of};
+use super::names::{Names, id_of, index_of};
 use super::request::{Asked, accesses, asked_by};
-use super::steps::{planned, write_steps};
+use super::steps::{op_in_pages, write_steps};
 use super::text::{write_refused, write_reply};
 use gv_model::{Model, Setting};
 use gv_types::{Bounds, Limits, MAX_TOLD, Op, OutOfMemory};
@@ -98,7 +98,7 @@ impl World {
 
     /// Writes what no reply is, where the bounds answer of an operation what the documents don't say.
     fn expect_alike(&self, op: &Op, out: &mut String) -> Result<(), OutOfMemory> {
-        if !self.area.is_checked_alike(&self.model.ground.bounds, op) {
+        if !self.area.is_checked_alike(&self.model.space.bounds, op) {
             out.push_str("the bounds answer otherwise\n")?;
         }
         Ok(())
@@ -119,14 +119,14 @@ impl World {
             };
             self.area = area;
             if let Some(bounds) = Bounds::from_bytes(first, second, third, fourth) {
-                self.model.ground.bounds = bounds;
+                self.model.space.bounds = bounds;
             }
         } else {
             if !are_limits([first, second, third]) || !self.may_limit {
                 return Ok(false);
             }
             if let Some(limits) = Limits::new(first, second, third, MAX_TOLD) {
-                self.model.ground.limits = limits;
+                self.model.space.limits = limits;
             }
             self.may_limit = false;
         }
@@ -148,7 +148,7 @@ impl World {
         if let Verb::Timeline = said.verb {
             return self.declare_timeline(alloc, name, out);
         }
-        if place_of(&self.names.buffers, name).is_some() {
+        if index_of(&self.names.buffers, name).is_some() {
             return Ok(false);
         }
         let pages = said.numbers[1];
@@ -167,7 +167,7 @@ impl World {
         out: &mut String,
     ) -> Result<bool, OutOfMemory> {
         let timelines = &mut self.names.timelines;
-        if place_of(timelines, name).is_some() || timelines.len() as u64 >= TIMELINES {
+        if index_of(timelines, name).is_some() || timelines.len() as u64 >= TIMELINES {
             return Ok(false);
         }
         timelines.push(String::from_str(alloc, name)?)?;
@@ -280,9 +280,9 @@ impl World {
         self.begin();
         let op = said.op();
         self.expect_alike(&op, out)?;
-        let ground = &self.model.ground;
-        match planned(ground, &op) {
-            Ok(op) => write_steps(alloc, out, &self.names, &ground.list, &op)?,
+        let space_model = &self.model.space;
+        match op_in_pages(space_model, &op) {
+            Ok(op) => write_steps(alloc, out, &self.names, &space_model.list, &op)?,
             Err(fault) => write_refused(alloc, out, &fault)?,
         }
         Ok(true)

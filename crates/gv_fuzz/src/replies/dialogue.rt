@@ -18,8 +18,8 @@ pub struct Reply {
 pub fn changed_reply(alloc: Global, seed: u64) -> Result<Option<Reply>, AllocError> {
     let mut chance = Chance::new(seed);
     for _ in 0..COUNT {
-        let place = chance.random.below(REPLIES.len() as u64);
-        let Some(replies) = REPLIES.get(place as usize) else {
+        let index = chance.random.below(REPLIES.len() as u64);
+        let Some(replies) = REPLIES.get(index as usize) else {
             continue;
         };
         let text = reply_of(alloc, &mut chance, replies)?;

@@ -1,4 +1,4 @@
-//! Objects written as text once more, by their forms.
+//! Writes the JSON of a reply as its text again, by the forms.
 use super::forms::FORMS;
 use serde_json::Value;
 use std::alloc::Global;

@@ -17,7 +17,7 @@ pub struct HeldItem<'a> {
 
 /// What a held item says of a page: the last of its operations that covers it. And whether a later item withdraws the item.
 #[derive(Clone, Copy, Debug, PartialEq, Eq)]
-pub struct Said {
+pub struct CoveringOp {
     pub op: PageOp,
     pub is_withdrawn: bool,
 }
@@ -27,8 +27,8 @@ impl Journal {
     ghost use Rattle.gv_journal.specs.Items.{entries, is_withdrawn};
     ghost use Rattle.gv_journal.specs.Reach.{IsSilent};
     ghost use Rattle.gv_journal.specs.History.{base};
-    ghost use Rattle.gv_journal.specs.Saying.{last_covering, live_taken};
-    ghost use Rattle.gv_journal.specs.State.{FitsSpace};
+    ghost use Rattle.gv_journal.specs.Covering.{last_covering, live_taken};
+    ghost use Rattle.gv_journal.specs.Fits.{FitsSpace};
     ghost use Rattle.gv_journal.specs.Withdrawing.{item_at, found_fault};
 
     /// The item with this number, if it is held.
@@ -48,7 +48,7 @@ impl Journal {
     /// What the item with this number says of a page. None where it isn't held, and where no operation of it covers the page. An
     /// item that doesn't reach there isn't read. It is asked of many items one after another, so it is inlined as far as that.
     #[inline(always)]
-    pub fn said_of(&self, number: u64, page: u64) -> Option<Said>
+    pub fn covering_op(&self, number: u64, page: u64) -> Option<CoveringOp>
         ensures op { option_map (λ said. said.op) result
             ≡ option_and_then (λ item. last_covering item.kind page) (item_at self.now number) }
         ensures withdrawn { IfSome result (λ said. said.is_withdrawn ≡ is_withdrawn (entries self.now) number) }
@@ -60,7 +60,7 @@ impl Journal {
 
     /// What the item at an index says of a page.
     #[inline(never)]
-    fn said_at(&self, index: usize, page: u64) -> Option<Said>
+    fn said_at(&self, index: usize, page: u64) -> Option<CoveringOp>
         requires { index < length self.now.items }
         ensures op { option_map (λ said. said.op) result
             ≡ option_and_then (λ item. last_covering item.kind page) (item_at self.now (self.now.first + index)) }
@@ -69,7 +69,7 @@ impl Journal {
     {
         let (item, note) = self.noted(index);
         let op = last_covering(&item.kind, page)?;
-        Some(Said {
+        Some(CoveringOp {
             op,
             is_withdrawn: note.is_withdrawn(),
         })
@@ -137,7 +137,7 @@ impl Journal {
         ensures index { IfSome result (λ index. (self.now.first + index ≡ number) × (index < length self.now.items)) }
     {
         let index = self.index_of(number)?;
-        if !self.item_store.covers(index, page) {
+        if !self.item_store.spans_page(index, page) {
             return None;
         }
         Some(index)

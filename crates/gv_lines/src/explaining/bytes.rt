@@ -6,8 +6,8 @@ use crate::reason::{Layout, Reason, Slip};
 pub fn bytes_slip(text: &[u8]) -> Option<Slip<'_>> {
     let is_comment = text.first() == Some(&b'#');
     let mut before: Option<u8> = None;
-    for (place, byte) in text.iter().enumerate() {
-        let after = text.get(place + 1).copied();
+    for (position, byte) in text.iter().enumerate() {
+        let after = text.get(position + 1).copied();
         let layout = if is_comment {
             comment_layout(*byte)
         } else {
@@ -15,7 +15,7 @@ pub fn bytes_slip(text: &[u8]) -> Option<Slip<'_>> {
         };
         if let Some(layout) = layout {
             return Some(Slip {
-                column: place as u64 + 1,
+                column: position as u64 + 1,
                 reason: Reason::Layout(layout),
             });
         }

@@ -1,4 +1,4 @@
-//! Words that are much like another.
+//! The keywords, and which of them a misspelt word was meant to be.
 use std::alloc::Global;
 use std::str;
 use strsim::osa_distance;

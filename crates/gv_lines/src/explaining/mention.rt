@@ -1,21 +1,21 @@
 //! The names in a line.
+use super::cursor::{Found, WordCursor};
 use super::pattern::{Item, Pattern, Shape};
-use super::walk::{Found, Walk};
 use super::{Language, shape_of};
-use crate::reason::Set;
+use crate::reason::NameSet;
 use crate::words::Words;
 
-/// A name, and the place of its first byte in its line, counted from 1.
+/// A name, and the position of its first byte in its line, counted from 1.
 #[derive(Clone, Copy)]
 pub struct Mention<'a> {
-    pub set: Set,
+    pub set: NameSet,
     pub name: &'a [u8],
     pub column: u64,
 }
 
 /// What the next word of a line is.
 #[derive(Clone, Copy)]
-enum Stands {
+enum WordRole {
     /// The first of the line.
     Line,
     /// The first of a clause.
@@ -27,15 +27,15 @@ enum Stands {
 /// What the words of a line that are left are: the parts of a form that are left, with the set of its names.
 #[derive(Drop)]
 struct Next {
-    stands: Stands,
+    role: WordRole,
     parts: Words<'static>,
-    set: Set,
+    set: NameSet,
 }
 
 /// The names in a line of the language that are left.
 #[derive(Drop)]
 pub struct Mentions<'a> {
-    walk: Walk<'a>,
+    cursor: WordCursor<'a>,
     next: Next,
 }
 
@@ -43,14 +43,14 @@ impl<'a> Mentions<'a> {
     /// All names of a line.
     pub fn new(text: &'a [u8]) -> Self {
         Mentions {
-            walk: Walk::new(text),
+            cursor: WordCursor::new(text),
             next: Next::new(),
         }
     }
 
     /// The next name, if one is left.
     pub fn take(&mut self) -> Option<Mention<'a>> {
-        while let Some(found) = self.walk.take() {
+        while let Some(found) = self.cursor.take() {
             if self.next.read(found.word) == Some(b"NAME".as_slice()) {
                 return Some(Mention {
                     set: self.next.set,
@@ -66,35 +66,35 @@ impl<'a> Mentions<'a> {
 impl Next {
     fn new() -> Self {
         Next {
-            stands: Stands::Line,
+            role: WordRole::Line,
             parts: Words::new(b""),
-            set: Set::Buffers,
+            set: NameSet::Buffers,
         }
     }
 
     /// Reads a word. What part of a form it is, if it is one.
     fn read(&mut self, word: &[u8]) -> Option<&'static [u8]> {
         if word == b";".as_slice() {
-            self.stands = Stands::Clause;
+            self.role = WordRole::Clause;
             return None;
         }
-        match self.stands {
-            Stands::Line => {
+        match self.role {
+            WordRole::Line => {
                 self.begin_line(word);
                 None
             }
-            Stands::Clause => {
+            WordRole::Clause => {
                 self.begin_clause(word);
                 None
             }
-            Stands::Part => self.parts.take_word(),
+            WordRole::Part => self.parts.take_word(),
         }
     }
 
     fn begin_line(&mut self, word: &[u8]) {
         match shape_of(Language::Serve, word) {
             Some(Shape::Words { pattern }) => self.begin(pattern),
-            _ => self.stands = Stands::Clause,
+            _ => self.role = WordRole::Clause,
         }
     }
 
@@ -107,7 +107,7 @@ impl Next {
     fn begin(&mut self, pattern: Pattern) {
         let mut parts = Words::new(pattern.text.as_bytes());
         let _first = parts.take_word();
-        self.stands = Stands::Part;
+        self.role = WordRole::Part;
         self.parts = parts;
         self.set = pattern.names;
     }
@@ -115,9 +115,9 @@ impl Next {
 
 /// The word of a line of the language by which it names a queue, if it does.
 pub fn queue_in(text: &[u8]) -> Option<Found<'_>> {
-    let mut walk = Walk::new(text);
+    let mut cursor = WordCursor::new(text);
     let mut next = Next::new();
-    while let Some(found) = walk.take() {
+    while let Some(found) = cursor.take() {
         let part = next.read(found.word);
         if part == Some(b"Q".as_slice()) || part == Some(b"QUEUE".as_slice()) {
             return Some(found);

@@ -1,12 +1,12 @@
 //! The forms of lines, clauses and accesses.
-use crate::reason::Set;
+use crate::reason::NameSet;
 
 /// A row of words: the first word, and a part for each word after it. NAME is a name of this set, QUEUE the number of a queue,
 /// Q the same in decimal, and any other part a number. `ro` may follow, if `may_be_read_only`.
 #[derive(Clone, Copy)]
 pub struct Pattern {
     pub text: &'static str,
-    pub names: Set,
+    pub names: NameSet,
     pub may_be_read_only: bool,
 }
 
@@ -20,7 +20,7 @@ pub enum Shape {
     Operation,
 }
 
-/// What a clause, an operation on a range or an access is one of.
+/// What has a pattern by its first word.
 #[derive(Clone, Copy)]
 pub enum Item {
     Clause,
@@ -29,61 +29,61 @@ pub enum Item {
 }
 
 /// A first word, and the fields of the `Pattern` that it begins.
-type Row = (&'static [u8], &'static str, Set, bool);
+type Row = (&'static [u8], &'static str, NameSet, bool);
 
 /// The lines of scripts that are rows of words.
 #[rattlefmt::skip]
 const LINES: [Row; 17] = [
-    (b"space", "space START LEN RSTART RLEN", Set::Buffers, false),
-    (b"limits", "limits BUFFERS MAPPINGS ITEMS", Set::Buffers, false),
-    (b"buffer", "buffer NAME PAGES", Set::Buffers, false),
-    (b"destroy", "destroy NAME", Set::Buffers, false),
-    (b"uses", "uses NAME", Set::Buffers, false),
-    (b"timeline", "timeline NAME", Set::Timelines, false),
-    (b"raise", "raise NAME NUM", Set::Timelines, false),
-    (b"value", "value NAME", Set::Timelines, false),
-    (b"map", "map", Set::Buffers, false),
-    (b"at", "at ADDR", Set::Buffers, false),
-    (b"tables", "tables", Set::Buffers, false),
-    (b"rewind", "rewind", Set::Buffers, false),
-    (b"journal", "journal", Set::Buffers, false),
-    (b"withdraw", "withdraw ENTRY", Set::Buffers, false),
-    (b"settle", "settle TO", Set::Buffers, false),
-    (b"told", "told QUEUE", Set::Buffers, false),
-    (b"end", "end JOB", Set::Buffers, false),
+    (b"space", "space START LEN RSTART RLEN", NameSet::Buffers, false),
+    (b"limits", "limits BUFFERS MAPPINGS ITEMS", NameSet::Buffers, false),
+    (b"buffer", "buffer NAME PAGES", NameSet::Buffers, false),
+    (b"destroy", "destroy NAME", NameSet::Buffers, false),
+    (b"uses", "uses NAME", NameSet::Buffers, false),
+    (b"timeline", "timeline NAME", NameSet::Timelines, false),
+    (b"raise", "raise NAME NUM", NameSet::Timelines, false),
+    (b"value", "value NAME", NameSet::Timelines, false),
+    (b"map", "map", NameSet::Buffers, false),
+    (b"at", "at ADDR", NameSet::Buffers, false),
+    (b"tables", "tables", NameSet::Buffers, false),
+    (b"rewind", "rewind", NameSet::Buffers, false),
+    (b"journal", "journal", NameSet::Buffers, false),
+    (b"withdraw", "withdraw ENTRY", NameSet::Buffers, false),
+    (b"settle", "settle TO", NameSet::Buffers, false),
+    (b"told", "told QUEUE", NameSet::Buffers, false),
+    (b"end", "end JOB", NameSet::Buffers, false),
 ];
 
 /// The rows of words that only a dialogue has.
 #[rattlefmt::skip]
 const SERVE_LINES: [Row; 6] = [
-    (b"turn", "turn QUEUE", Set::Buffers, false),
-    (b"giveup", "giveup QUEUE", Set::Buffers, false),
-    (b"forget", "forget QUEUE TO", Set::Buffers, false),
-    (b"trim", "trim", Set::Buffers, false),
-    (b"show", "show ENTRY", Set::Buffers, false),
-    (b"past", "past ADDR", Set::Buffers, false),
+    (b"turn", "turn QUEUE", NameSet::Buffers, false),
+    (b"giveup", "giveup QUEUE", NameSet::Buffers, false),
+    (b"forget", "forget QUEUE TO", NameSet::Buffers, false),
+    (b"trim", "trim", NameSet::Buffers, false),
+    (b"show", "show ENTRY", NameSet::Buffers, false),
+    (b"past", "past ADDR", NameSet::Buffers, false),
 ];
 
 /// The clauses that are no operations on a range.
 #[rattlefmt::skip]
 const CLAUSES: [Row; 4] = [
-    (b"unmapall", "unmapall NAME", Set::Buffers, false),
-    (b"wait", "wait NAME NUM", Set::Timelines, false),
-    (b"signal", "signal NAME NUM", Set::Timelines, false),
-    (b"queue", "queue Q", Set::Buffers, false),
+    (b"unmapall", "unmapall NAME", NameSet::Buffers, false),
+    (b"wait", "wait NAME NUM", NameSet::Timelines, false),
+    (b"signal", "signal NAME NUM", NameSet::Timelines, false),
+    (b"queue", "queue Q", NameSet::Buffers, false),
 ];
 
 #[rattlefmt::skip]
 const OPERATIONS: [Row; 3] = [
-    (b"map", "map ADDR LEN NAME OFFSET", Set::Buffers, true),
-    (b"zero", "zero ADDR LEN", Set::Buffers, true),
-    (b"unmap", "unmap ADDR LEN", Set::Buffers, false),
+    (b"map", "map ADDR LEN NAME OFFSET", NameSet::Buffers, true),
+    (b"zero", "zero ADDR LEN", NameSet::Buffers, true),
+    (b"unmap", "unmap ADDR LEN", NameSet::Buffers, false),
 ];
 
 #[rattlefmt::skip]
 const ACCESSES: [Row; 2] = [
-    (b"read", "read ADDR", Set::Buffers, false),
-    (b"write", "write ADDR", Set::Buffers, false),
+    (b"read", "read ADDR", NameSet::Buffers, false),
+    (b"write", "write ADDR", NameSet::Buffers, false),
 ];
 
 impl Shape {

@@ -1,5 +1,5 @@
-//! Words that are not what their place in a form requires.
-use super::walk::{Found, past};
+//! Words that are not what their position in a form requires.
+use super::cursor::{Found, past};
 use crate::name::Name;
 use crate::number::{decimal_of, number_of};
 use crate::reason::{Form, NameSlip, NumberSlip, Reason, Slip};
@@ -23,11 +23,11 @@ impl Bytes {
     }
 }
 
-/// The place of the first byte that is none of these.
+/// The position of the first byte that is none of these.
 fn first_other(bytes: &[u8], wanted: Bytes) -> Option<usize> {
-    for (place, byte) in bytes.iter().enumerate() {
+    for (position, byte) in bytes.iter().enumerate() {
         if !wanted.has(*byte) {
-            return Some(place);
+            return Some(position);
         }
     }
     None
@@ -43,13 +43,13 @@ pub fn word_slip<'a>(part: &[u8], found: Found<'a>) -> Option<Slip<'a>> {
         });
     }
     if part == b"NAME".as_slice() {
-        let (place, slip) = name_slip(word)?;
+        let (position, slip) = name_slip(word)?;
         return Some(Slip {
-            column: past(found.column, place),
+            column: past(found.column, position),
             reason: Reason::Name { word, slip },
         });
     }
-    let (place, slip) = if part == b"Q".as_slice() {
+    let (position, slip) = if part == b"Q".as_slice() {
         queue_named_slip(word)?
     } else if part == b"QUEUE".as_slice() {
         queue_slip(word)?
@@ -57,7 +57,7 @@ pub fn word_slip<'a>(part: &[u8], found: Found<'a>) -> Option<Slip<'a>> {
         number_slip(word)?
     };
     Some(Slip {
-        column: past(found.column, place),
+        column: past(found.column, position),
         reason: Reason::Number { word, slip },
     })
 }
@@ -75,7 +75,7 @@ fn name_slip(word: &[u8]) -> Option<(usize, NameSlip)> {
         return Some((0, NameSlip::Start));
     }
     match first_other(rest, Bytes::OfNames) {
-        Some(place) => Some((place.saturating_add(1), NameSlip::Byte)),
+        Some(position) => Some((position.saturating_add(1), NameSlip::Byte)),
         None => Some((0, NameSlip::Long)),
     }
 }
@@ -105,14 +105,14 @@ fn hex_slip(digits: &[u8]) -> (usize, NumberSlip) {
         return (0, NumberSlip::NoDigits);
     }
     match first_other(digits, Bytes::Hexadecimal) {
-        Some(place) => (place.saturating_add(2), NumberSlip::HexDigit),
+        Some(position) => (position.saturating_add(2), NumberSlip::HexDigit),
         None => (0, NumberSlip::ManyDigits),
     }
 }
 
 fn decimal_slip(word: &[u8]) -> (usize, NumberSlip) {
     match first_other(word, Bytes::Decimal) {
-        Some(place) => (place, NumberSlip::DecimalDigit),
+        Some(position) => (position, NumberSlip::DecimalDigit),
         None if word.first() == Some(&b'0') => (0, NumberSlip::LeadingZero),
         None => (0, NumberSlip::TooGreat),
     }

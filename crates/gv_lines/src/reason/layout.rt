@@ -1,4 +1,4 @@
-//! How the bytes of a line are laid out.
+//! What is wrong with the bytes of a line.
 use std::fmt;
 
 /// How many bytes a line has at most, without its line end.

@@ -1,4 +1,4 @@
-//! Settings that cannot be.
+//! Why a `space` or `limits` line is refused.
 use std::fmt;
 
 /// Why a `space` line or a `limits` line sets what cannot be set.

@@ -1,7 +1,7 @@
 //! Whether a world is what the definitions have: list and page table say of each page what the entries say, looked up in the
 //! history page by page, and entries, counts, outcomes and timelines are the same.
 use gv_journal::{Item, ItemKind};
-use gv_model::{Kind, Model, Past};
+use gv_model::{HistoryEntry, Kind, Model};
 use gv_types::OutOfMemory;
 use gv_vm::{QUEUES, Reply, World};
 use std::alloc::Global;
@@ -10,7 +10,7 @@ use std::alloc::Global;
 const PAGES: u64 = 34;
 
 /// Whether an entry of the journal is what the definitions have.
-fn is_entry(item: &Item, past: &Past) -> bool {
+fn is_entry(item: &Item, past: &HistoryEntry) -> bool {
     match (&item.kind, &past.kind) {
         (
             ItemKind::Bind {
@@ -41,7 +41,7 @@ fn is_entry(item: &Item, past: &Past) -> bool {
 
 /// Whether the journal holds the entries of the history.
 fn has_entries(world: &World, model: &Model) -> bool {
-    let history = &model.ground.history;
+    let history = &model.space.history;
     let items = world.vm().items();
     world.vm().first() == history.first
         && items.len() == history.entries.len()
@@ -55,7 +55,7 @@ fn has_entries(world: &World, model: &Model) -> bool {
 fn shows_each_page(world: &World, model: &Model) -> bool {
     let space = world.vm().space();
     for page in 0..PAGES {
-        let wanted = model.ground.view(page);
+        let wanted = model.space.view(page);
         if space.find(page) != wanted || space.walk(page) != wanted {
             return false;
         }
@@ -66,11 +66,11 @@ fn shows_each_page(world: &World, model: &Model) -> bool {
 /// Whether each buffer that was made has its pages and its counts, where it is alive.
 fn counts_buffers(alloc: Global, world: &World, model: &Model) -> Result<bool, OutOfMemory> {
     let space = world.vm().space();
-    let ground = &model.ground;
-    for made in &ground.buffers {
+    let space_model = &model.space;
+    for made in &space_model.buffers {
         let id = &made.id;
-        let uses = gv_model::count_of(ground.list.as_slice(), id);
-        let kept = ground.history.kept(alloc, id)?;
+        let uses = gv_model::count_of(space_model.list.as_slice(), id);
+        let kept = space_model.history.kept(alloc, id)?;
         let wanted = if made.is_alive {
             (Some(made.pages), Some(uses), Some(kept))
         } else {
@@ -110,7 +110,7 @@ fn is_each_timeline(world: &World, model: &Model) -> bool {
 
 /// Whether the list has the mappings that the definitions have, and no others.
 fn is_listed(world: &World, model: &Model) -> bool {
-    let (list, wanted) = (world.vm().space().list(), &model.ground.list);
+    let (list, wanted) = (world.vm().space().list(), &model.space.list);
     list.len() == wanted.len()
         && list
             .iter()
@@ -131,7 +131,7 @@ pub fn agrees(alloc: Global, world: &World, model: &Model) -> Result<bool, OutOf
 /// Whether a reply is the one that was wanted. A new buffer has any free place of the table.
 pub fn is_wanted(model: &mut Model, wanted: &Reply, given: &Reply) -> bool {
     match (wanted, given) {
-        (Reply::Created { .. }, Reply::Created { id }) => model.ground.place_newest(id),
+        (Reply::Created { .. }, Reply::Created { id }) => model.space.place_newest(id),
         _ => wanted == given,
     }
 }

@@ -91,8 +91,8 @@ impl Chance {
 
     /// One of these, each as likely as the others.
     fn one_of(&mut self, forms: &[&'static str]) -> &'static str {
-        let place = self.random.below((forms.len() as u64).max(1));
-        forms.get(place as usize).copied().unwrap_or("")
+        let position = self.random.below((forms.len() as u64).max(1));
+        forms.get(position as usize).copied().unwrap_or("")
     }
 
     /// `rare` once in so many times, else a number below another.
@@ -112,9 +112,9 @@ impl Chance {
         count
     }
 
-    /// The place of a buffer that was made, alive or not, one of the newest.
+    /// The position of a buffer that was made, alive or not, one of the newest.
     fn buffer(&mut self, model: &Model) -> u64 {
-        let made = model.ground.buffers.len() as u64;
+        let made = model.space.buffers.len() as u64;
         made.saturating_sub(self.random.below(3).saturating_add(1))
     }
 
@@ -129,7 +129,7 @@ impl Chance {
     /// A byte of a page, of every second one that the first page of some mapping.
     fn addr(&mut self, model: &Model) -> u64 {
         let any = self.random.below(34);
-        let list = model.ground.list.as_slice();
+        let list = model.space.list.as_slice();
         let places = (list.len() as u64).saturating_mul(2).saturating_add(1);
         let page = match list.get(self.random.below(places) as usize) {
             Some(mapping) => mapping.range.first(),
@@ -148,7 +148,7 @@ impl Chance {
 
     /// The number of an entry, or one on either side of those that are held.
     fn entry(&mut self, model: &Model) -> u64 {
-        let history = &model.ground.history;
+        let history = &model.space.history;
         self.around(history.first, history.entries.len() as u64)
     }
 
@@ -188,7 +188,7 @@ impl Chance {
             'U' => self.own,
             'V' => self.value(model),
             'W' => self.point.value,
-            'X' => model.ground.history.next(),
+            'X' => model.space.history.next(),
             _ => return None,
         })
     }
@@ -235,7 +235,7 @@ impl Chance {
     /// The event of a queue that is enabled there, or one of two.
     fn useful(&mut self, model: &Model) -> &'static str {
         self.own = self.mostly_below(2, 24, 2);
-        let Some(line) = model.lines.get(self.own as usize) else {
+        let Some(line) = model.queues.get(self.own as usize) else {
             return "take U";
         };
         if !line.owed.is_empty() {

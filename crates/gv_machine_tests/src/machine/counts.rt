@@ -1,12 +1,12 @@
 //! Where memory is ample no count of things is refused for want of it: operations, waits, signals, accesses, undo values, and
 //! mappings that one of these keeps, each from 0 to 300. No clause says that memory is there, so a body that wants it at a count
 //! of its own choice is refused by these rows alone.
-use crate::machine::play::{Room, WIDE, play};
+use crate::machine::play::{WIDE, WorldSetup, play};
 use crate::machine::stage::Act;
 use std::test::Fail;
 
 /// Nothing is compared with the model after each of so many events.
-const COUNTED: Room = Room {
+const COUNTED: WorldSetup = WorldSetup {
     compares: false,
     ..WIDE
 };

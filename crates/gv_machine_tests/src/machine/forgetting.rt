@@ -1,10 +1,10 @@
 //! Rows of outcomes let go: which faults refuse it, in their order, and that numbers and room go on behind it.
-use crate::machine::play::{Room, WIDE, play};
+use crate::machine::play::{WIDE, WorldSetup, play};
 use crate::machine::stage::Act;
 use std::test::Fail;
 
 /// One queue with two places, that holds three outcomes and waiting requests of it at most.
-const NARROW: Room = Room {
+const NARROW: WorldSetup = WorldSetup {
     limits: [1, 8, 8, 3],
     sizes: [1, 2, 1],
     compares: true,

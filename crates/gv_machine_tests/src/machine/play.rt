@@ -1,8 +1,8 @@
 //! Rows of lines, played on a world and on a machine of their own.
 ghost use Rattle.std.specs.Prelude.{◌≡◌, [], IfOk};
 
-use crate::machine::asking::question;
 use crate::machine::stage::{Act, Stage, is_answer};
+use crate::machine::vm_text::question;
 use gv_model::{Setting, number_of, request_in};
 use gv_types::{
     Bounds, Limits, MAX_BUFFERS, MAX_ITEMS, MAX_MAPPINGS, MAX_TOLD, OutOfMemory, Request,
@@ -15,7 +15,7 @@ use std::test::Fail;
 /// The limits of buffers, of mappings, of entries and of outcomes told a queue; how many queues there are, how many places each
 /// has, and how many timelines there are; whether the model is asked beside the world.
 #[derive(Clone, Copy)]
-pub struct Room {
+pub struct WorldSetup {
     pub limits: [u64; 4],
     pub sizes: [u64; 3],
     pub compares: bool,
@@ -25,20 +25,20 @@ pub struct Room {
 pub const FULL: [u64; 4] = [MAX_BUFFERS, MAX_MAPPINGS, MAX_ITEMS, MAX_TOLD];
 
 /// 16 queues of depth 1 and one timeline.
-pub const WIDE: Room = Room {
+pub const WIDE: WorldSetup = WorldSetup {
     limits: FULL,
     sizes: [16, 1, 1],
     compares: true,
 };
 
 /// Two queues of depth 1 and one timeline.
-pub const SMALL: Room = Room {
+pub const SMALL: WorldSetup = WorldSetup {
     limits: FULL,
     sizes: [2, 1, 1],
     compares: true,
 };
 
-impl Room {
+impl WorldSetup {
     pub fn setting(&self, bounds: Bounds) -> Result<Setting, Fail> {
         let [buffers, mappings, items, told] = self.limits;
         let [queues, depth, timelines] = self.sizes;
@@ -53,7 +53,7 @@ impl Room {
 }
 
 /// Plays acts on a world of all pages.
-pub fn play<R: Abort + AllocGlobal>(rt: &R, room: &Room, acts: &[Act]) -> Result<(), Fail> {
+pub fn play<R: Abort + AllocGlobal>(rt: &R, room: &WorldSetup, acts: &[Act]) -> Result<(), Fail> {
     let setting = room.setting(Bounds::whole())?;
     let mut stage = Stage::new(rt.alloc(), &setting, room.compares)?;
     let end = stage.play(rt, acts);
@@ -62,7 +62,11 @@ pub fn play<R: Abort + AllocGlobal>(rt: &R, room: &Room, acts: &[Act]) -> Result
 }
 
 /// Plays one text.
-pub fn play_text<R: Abort + AllocGlobal>(rt: &R, room: &Room, text: &str) -> Result<(), Fail> {
+pub fn play_text<R: Abort + AllocGlobal>(
+    rt: &R,
+    room: &WorldSetup,
+    text: &str,
+) -> Result<(), Fail> {
     let setting = room.setting(Bounds::whole())?;
     let mut stage = Stage::new(rt.alloc(), &setting, room.compares)?;
     let end = stage.play_text(rt, text);

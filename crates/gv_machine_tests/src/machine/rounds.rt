@@ -1,6 +1,6 @@
 //! Thousands of events by chance, each answered by a world as by the definitions; what both come to is compared after each.
 use crate::machine::chance::Chance;
-use crate::machine::play::Room;
+use crate::machine::play::WorldSetup;
 use crate::machine::stage::Stage;
 use crate::machine::tally::{EVENTS, REPLIES, Tally};
 use gv_types::Bounds;
@@ -12,26 +12,26 @@ use std::test::Fail;
 const SIZES: [u64; 3] = [2, 2, 2];
 
 /// Limits that are seldom met, those of mappings that often are, and those of entries and outcomes.
-const WIDE: Room = Room {
+const WIDE: WorldSetup = WorldSetup {
     limits: [3, 64, 40, 200],
     sizes: SIZES,
     compares: true,
 };
 
-const NARROW: Room = Room {
+const NARROW: WorldSetup = WorldSetup {
     limits: [2, 3, 12, 200],
     sizes: SIZES,
     compares: true,
 };
 
-const SHORT: Room = Room {
+const SHORT: WorldSetup = WorldSetup {
     limits: [3, 9, 3, 12],
     sizes: SIZES,
     compares: true,
 };
 
 /// One event by chance, answered by both. Whether they agree.
-fn turn(
+fn one_event(
     alloc: Global,
     stage: &mut Stage,
     chance: &mut Chance,
@@ -45,7 +45,7 @@ fn turn(
     Ok(is_same)
 }
 
-fn turns(
+fn many_events(
     rt: &(impl Abort + AllocGlobal),
     stage: &mut Stage,
     seed: u64,
@@ -54,7 +54,7 @@ fn turns(
 ) -> Result<(), Fail> {
     let mut chance = Chance::new(seed);
     for done in 0..events {
-        let agreed = turn(rt.alloc(), stage, &mut chance, tally)?;
+        let agreed = one_event(rt.alloc(), stage, &mut chance, tally)?;
         assert!(rt; agreed, "seed {seed}, event {done}");
     }
     Ok(())
@@ -63,14 +63,14 @@ fn turns(
 /// So many events from a seed, on a world of pages 1 to 31, of which page 30 is reserved.
 fn round<R: Abort + AllocGlobal>(
     rt: &R,
-    room: &Room,
+    room: &WorldSetup,
     seed: u64,
     events: u64,
     tally: &mut Tally,
 ) -> Result<(), Fail> {
     let bounds = Bounds::new(1, 31, 30, 1).ok_or("bounds")?;
     let mut stage = Stage::new(rt.alloc(), &room.setting(bounds)?, room.compares)?;
-    let end = turns(rt, &mut stage, seed, events, tally);
+    let end = many_events(rt, &mut stage, seed, events, tally);
     stage.close();
     end
 }

@@ -1,6 +1,6 @@
 //! A world and the model of it, which answer the same events, and what both come to by lines of text.
 use crate::machine::agreement::{agrees, is_wanted};
-use crate::machine::asking::{named, question, text_of};
+use crate::machine::vm_text::{named, question, text_of};
 use gv_model::{Model, Setting, event_in, number_of};
 use gv_types::{BufferId, OutOfMemory};
 use gv_vm::{Event, Reply, Sizes, World};

@@ -1,11 +1,11 @@
-//! Room given back: what refuses it, and that a world goes on behind it as the definitions say, whatever came and went before.
+//! Memory freed by `trim`: what refuses it, and that a world goes on behind it as the definitions say, whatever came and went before.
 //! So many mappings stand in several blocks of memory.
-use crate::machine::play::{FULL, Room, play};
+use crate::machine::play::{FULL, WorldSetup, play};
 use crate::machine::stage::Act;
 use std::test::Fail;
 
 /// One queue of depth 1 and one timeline.
-const ONE: Room = Room {
+const ONE: WorldSetup = WorldSetup {
     limits: FULL,
     sizes: [1, 1, 1],
     compares: true,

@@ -1,9 +1,9 @@
-//! Memory that is freed.
+//! Frees memory: unmaps its buffer everywhere, and counts what still reached it.
 
 use super::{Replay, pages_of};
+use crate::act::{Act, Cause, Moment};
 use crate::fault::ReplayFault;
-use crate::place::Place;
-use crate::row::{Act, Cause, Moment};
+use crate::occurrence::Occurrence;
 use crate::watcher::Watcher;
 use gv_types::{BufferId, Op, PAGE_BYTES, PageRange};
 use std::alloc::Global;
@@ -73,7 +73,7 @@ impl Replay {
             let ops = ops_of(alloc, &act, mapped.as_slice(), uses)?;
             self.carry_out_as(alloc, &act, ops, watcher)?;
         }
-        self.give_up(freed.buffer)
+        self.destroy_later(freed.buffer)
     }
 
     fn note_reached(
@@ -84,8 +84,8 @@ impl Replay {
     ) -> Result<(), ReplayFault> {
         let pages = self.machine.space().pages(freed.buffer).unwrap_or(0);
         let numbers = [freed.made_at, pages, mappings];
-        let place = Place::reached(moment, freed.buffer, numbers);
-        self.tally.still_reached.add(place)
+        let occurrence = Occurrence::reached(moment, freed.buffer, numbers);
+        self.tally.still_reached.add(occurrence)
     }
 }
 

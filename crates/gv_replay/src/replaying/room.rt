@@ -1,4 +1,4 @@
-//! Room for further entries and buffers.
+//! Settles old entries and destroys freed buffers, so that new ones have room.
 
 use super::Replay;
 use crate::fault::ReplayFault;
@@ -49,7 +49,7 @@ impl Replay {
             self.whereabouts.forget(&id);
             watcher.destroyed(number_of(&id))
         } else {
-            self.give_up(id)
+            self.destroy_later(id)
         }
     }
 
@@ -58,7 +58,7 @@ impl Replay {
     }
 
     /// Where buffers were freed, settles all entries and destroys those that no mapping has.
-    pub(super) fn give_way<V: Watcher>(&mut self, watcher: &mut V) -> Result<(), ReplayFault> {
+    pub(super) fn destroy_freed<V: Watcher>(&mut self, watcher: &mut V) -> Result<(), ReplayFault> {
         if self.freed.len() == 0 {
             return Ok(());
         }

@@ -6,7 +6,7 @@ ghost use Rattle.gv_types.specs.declared.mapping.Mapping.{Mapping};
 ghost use Rattle.gv_ranges.specs.List.{AreEnded, IsLaidOut};
 ghost use Rattle.gv_ranges.specs.Edit.{clipped};
 ghost use Rattle.gv_table.specs.Kinds.{none, AreEnough};
-ghost use Rattle.gv_table.specs.Names.{AreNamed};
+ghost use Rattle.gv_table.specs.BufferNames.{AreNamed};
 ghost use Rattle.gv_table.specs.Patch.{HasMappingAt};
 ghost use Rattle.gv_table.specs.Reads.{AreAlikeOutside};
 ghost use Rattle.gv_table.specs.Table.{IsTree, FitsOutside, gained_by};
@@ -96,14 +96,14 @@ impl ListWithTable {
         let Some(some) = pages_of_one(&self.list, spot, out_count, pieces) else {
             return false;
         };
-        if !self.table.paint_within(range, inside, some) {
+        if !self.table.try_paint_within(range, inside, some) {
             return false;
         }
         self.list.splice_at(spot, out_count, pieces);
         true
     }
 
-    /// The same, wherever the range lies. Not inlined: nearly every edit takes the short road, whose frame stays small so.
+    /// The same, wherever the range lies. Not inlined: nearly every edit takes the fast path, whose frame stays small so.
     #[inline(never)]
     fn edit_anywhere(
         &mut self,
@@ -176,7 +176,7 @@ impl ListWithTable {
         }
     }
 
-    /// The same, wherever the range lies. Not inlined: nearly every edit takes the short road, whose frame stays small so.
+    /// The same, wherever the range lies. Not inlined: nearly every edit takes the fast path, whose frame stays small so.
     #[inline(never)]
     fn put_back_anywhere(
         &mut self,

@@ -39,7 +39,7 @@ impl Space {
     }
 
     /// The pages of each mapping of a buffer, in ascending order: what an unmap of the whole buffer unmaps. `NoBuffer` where
-    /// the id is dead; `OutOfMemory` only where there is such a mapping. Where the buffer keeps the places of all, each is looked up;
+    /// the id is dead; `OutOfMemory` only where there is such a mapping. Where the buffer keeps the first pages of all, each is looked up;
     /// else the list is gone through, as far as the last of them.
     pub fn buffer_ranges(&self, alloc: Global, id: BufferId) -> Result<Vec<PageRange>, Fault>
         ensures fault { MatchOption (dead_fault (pages self.now.buffers id))
@@ -51,8 +51,8 @@ impl Space {
         let Some(count) = self.buffers.uses(id) else {
             return Err(Fault::NoBuffer);
         };
-        let places = self.places.places(id.index);
-        Ok(ranges::ranges_of(alloc, self.list(), id, count, places)?)
+        let first_pages = self.first_pages.first_pages(id.index);
+        Ok(ranges::ranges_of(alloc, self.list(), id, count, first_pages)?)
     }
 
     /// Why no buffer of `pages` pages can be made, whatever memory there is.
@@ -76,7 +76,7 @@ impl Space {
             return Err(fault);
         }
         let index = self.buffers.next_index();
-        self.places.reserve(alloc, index)?;
+        self.first_pages.reserve(alloc, index)?;
         self.mapped.reserve_name(index)?;
         match self.buffers.create(alloc, pages) {
             Ok(id) => {

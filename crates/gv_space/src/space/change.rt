@@ -5,7 +5,7 @@ ghost use Rattle.std.specs.List.{All, splice};
 ghost use Rattle.gv_types.specs.declared.mapping.Mapping.{Mapping};
 ghost use Rattle.gv_ranges.specs.List.{IsLaidOut};
 ghost use Rattle.gv_ranges.specs.Edit.{restored};
-ghost use Rattle.gv_space.specs.State.{IsPlaced, IsUnchanged};
+ghost use Rattle.gv_space.specs.State.{IsValidMapping, IsUnchanged};
 ghost use Rattle.gv_space.specs.Refusal.{limit_fault};
 ghost use Rattle.gv_space.specs.Change.{IsChanged, GrowsJustFor};
 ghost use Rattle.gv_space.specs.Ready.{IsReady};
@@ -13,7 +13,7 @@ ghost use Rattle.gv_space.specs.Undo.{undo_with};
 
 use super::Space;
 use crate::counts;
-use crate::pieces::{Pieces, copy_run, with_rests};
+use crate::pieces::{TakenMappings, copy_run, with_rests};
 use gv_chunks::Spot;
 use gv_table::Spares;
 use gv_types::{Fault, Packed, PageRange};
@@ -29,17 +29,17 @@ pub(super) struct Made {
 }
 
 impl Space {
-    /// The range is cut out, and what the saved mappings have in it is put in. The list is searched once for all of it. What was taken
+    /// The range is taken out, and what the saved mappings have in it is put in. The list is searched once for all of it. What was taken
     /// out is put where it stays: a value of its size is moved seldom.
     pub(super) fn change(
         &mut self,
         alloc: Global,
         range: PageRange,
         saved: &[Packed],
-        taken: &mut Pieces,
+        taken: &mut TakenMappings,
     ) -> Result<Made, Fault>
         requires laid_out { IsLaidOut saved.now }
-        requires placed { All (IsPlaced self.old.area self.old.buffers) saved.now }
+        requires valid { All (IsValidMapping self.old.area self.old.buffers) saved.now }
         requires none { taken.old.items ≡ [] }
         ensures fault { MatchOption (limit_fault self.old range (restored self.old.mappings range saved.now))
             (IsOkUnless result Fault.OutOfMemory) (λ fault. result ≡ Err fault) }
@@ -50,17 +50,17 @@ impl Space {
         ensures refused { IfErr result (λ fault. fault ≢ Fault.OutOfMemory → self.new ≡ self.old) }
         ensures room { GrowsJustFor (restored self.old.mappings range saved.now) self.old self.new }
     {
-        let cut = self.list().cut(range);
-        self.check_limits(range, cut, saved)?;
-        copy_run(taken, self.list(), cut)?;
-        let spot = cut.spot;
+        let overlap = self.list().overlap(range);
+        self.check_limits(range, overlap, saved)?;
+        copy_run(taken, self.list(), overlap)?;
+        let spot = overlap.spot;
         let mut pieces = SmallVec::new(alloc);
         let (start, end) = with_rests(&mut pieces, taken.as_slice(), saved, range)?;
         let pieces = pieces.as_slice();
         let inside = &pieces[start..end];
         self.mapped
             .reserve(pieces.len().saturating_sub(taken.len()))?;
-        counts::make_room(&mut self.places, pieces)?;
+        counts::make_room(&mut self.first_pages, pieces)?;
         let tables = self.commit(alloc, range, spot, taken.as_slice(), pieces, inside)?;
         Ok(Made {
             index: spot.index,
@@ -89,7 +89,7 @@ impl Space {
     {
         let count = taken.len();
         let tables = self.mapped.edit(alloc, range, spot, count, pieces, inside)?;
-        counts::move_counts(&mut self.buffers, &mut self.places, taken, pieces);
+        counts::move_counts(&mut self.buffers, &mut self.first_pages, taken, pieces);
         self.kept_count += count as u64;
         Ok(tables)
     }

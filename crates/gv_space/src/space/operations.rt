@@ -8,7 +8,7 @@ ghost use Rattle.gv_types.specs.Operation.{has_range, in_pages, own_mapping, ran
 ghost use Rattle.gv_types.specs.declared.mapping.Mapping.{Mapping};
 ghost use Rattle.gv_ranges.specs.List.{at};
 ghost use Rattle.gv_ranges.specs.Edit.{edited, restored, undone};
-ghost use Rattle.gv_space.specs.State.{AreKept, IsPlaced, IsUnchanged};
+ghost use Rattle.gv_space.specs.State.{AreKept, IsValidMapping, IsUnchanged};
 ghost use Rattle.gv_space.specs.Refusal.{limit_fault, apply_fault};
 ghost use Rattle.gv_space.specs.Undo.{AreAmongKept, TookWhatWas, CanRevert, IsUndoOf, released, reverted};
 ghost use Rattle.gv_space.specs.Change.{IsChanged, GrowsJustFor};
@@ -55,7 +55,7 @@ impl Space {
     /// comes where it is refused for another fault than `OutOfMemory`.
     pub fn apply_pages(&mut self, alloc: Global, op: &PageOp) -> Result<OpUndo, Fault>
         requires pages { IsPageOp op.now }
-        requires placed { All (IsPlaced self.old.area self.old.buffers) (own_mapping op.now) }
+        requires valid { All (IsValidMapping self.old.area self.old.buffers) (own_mapping op.now) }
         ensures fault { MatchOption (limit_fault self.old (range_of op.now) (edited self.old.mappings op.now))
             (IsOkUnless result Fault.OutOfMemory) (λ fault. result ≡ Err fault) }
         ensures changed { IfOk result (λ undo.
@@ -142,12 +142,12 @@ impl Space {
             tables,
         } = undo;
         let list = self.mapped.list();
-        let near = list.near(range.first());
-        let spot = Spot { index, near };
+        let hint = list.hint(range.first());
+        let spot = Spot { index, hint };
         let pieces = list.run_at(spot, put_in);
         counts::move_counts_back(
             &mut self.buffers,
-            &mut self.places,
+            &mut self.first_pages,
             pieces,
             taken.as_slice(),
         );

@@ -8,13 +8,13 @@ ghost use Rattle.gv_types.specs.Operation.{in_pages, own_mapping, IsChecked};
 ghost use Rattle.gv_ranges.specs.List.{run, IsLaidOut, IsOverlappingRun};
 ghost use Rattle.gv_ranges.specs.Edit.{clipped, restored};
 ghost use Rattle.gv_buffers.specs.Buffers.{pages as size_of};
-ghost use Rattle.gv_space.specs.State.{IsPlaced};
+ghost use Rattle.gv_space.specs.State.{IsValidMapping};
 ghost use Rattle.gv_space.specs.Refusal.{operation_fault, buffer_fault, dead_fault, past_end, limit_fault};
 
 use super::Space;
 use crate::pieces::count_in_range;
 use gv_buffers::Buffers;
-use gv_ranges::{Cut, RangeList};
+use gv_ranges::{Overlap, RangeList};
 use gv_types::{Backing, BufferId, Fault, Op, Packed, PageOp, PageRange, SPACE_PAGES};
 
 /// Undo values of one space hold at most so many mappings.
@@ -28,7 +28,7 @@ impl Space {
         ensures same { IfOk result (λ p. p ≡ in_pages op.now) }
         ensures allowed { IfOk result (IsAllowed self.now.area) }
         ensures page_op { IfOk result IsChecked }
-        ensures placed { IfOk result (λ p. All (IsPlaced self.now.area self.now.buffers) (own_mapping p)) }
+        ensures valid { IfOk result (λ p. All (IsValidMapping self.now.area self.now.buffers) (own_mapping p)) }
     {
         let op = match self.bounds.check(op) {
             Ok(op) => op,
@@ -39,20 +39,20 @@ impl Space {
     }
 
     /// `TooManyMappings` where the list would pass its limit, or undo values would hold too much, once the saved mappings
-    /// stand in the range, where the cut is that of the range.
+    /// stand in the range, where the overlap is that of the range.
     pub(super) fn check_limits(
         &self,
         range: PageRange,
-        cut: Cut<'_>,
+        overlap: Overlap<'_>,
         saved: &[Packed],
     ) -> Result<(), Fault>
         requires laid_out { IsLaidOut saved.now }
-        requires met { IsOverlappingRun self.now.mappings range cut.spot.index cut.count }
+        requires met { IsOverlappingRun self.now.mappings range overlap.spot.index overlap.count }
         ensures { MatchOption (limit_fault self.now range (restored self.now.mappings range saved.now))
             (IsOk result) (λ fault. result ≡ Err fault) }
     {
         let list = self.list();
-        let Cut { spot, count, .. } = cut;
+        let Overlap { spot, count, .. } = overlap;
         let limit = self.limits.mappings();
         let without_rests = list.len() - count + count_in_range(saved, range);
         // The rests are at most two, and counted near the limit alone.

@@ -1,5 +1,5 @@
 //! Rows played on a space and its journal.
-ghost use Rattle.gv_journal.specs.State.{FitsSpace};
+ghost use Rattle.gv_journal.specs.Fits.{FitsSpace};
 
 use crate::asking::ask;
 use crate::journal::rounds;
@@ -41,7 +41,7 @@ fn bind(alloc: Global, space: &mut Space, journal: &mut Journal, ops: &mut Vec<O
     journal.bind(alloc, space, ready)
 }
 
-/// Makes a buffer: its place in the table.
+/// Makes a buffer: its position in the table.
 fn create(
     alloc: Global,
     space: &mut Space,
@@ -58,7 +58,7 @@ fn create(
     Ok(u64::from(index))
 }
 
-/// Destroys a buffer: its place in the table.
+/// Destroys a buffer: its position in the table.
 fn destroy(space: &mut Space, journal: &Journal, id: BufferId) -> Result<u64, Fault>
     requires { FitsSpace space.old journal.now }
     ensures { FitsSpace space.new journal.now }

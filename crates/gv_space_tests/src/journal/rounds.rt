@@ -1,6 +1,6 @@
 //! Many requests, rewinds, withdrawals and settles by chance, on a space with its journal and by the definitions alone, which keep the whole
 //! list before each entry. What each answers is compared, and after each all that is held.
-ghost use Rattle.gv_journal.specs.State.{FitsSpace};
+ghost use Rattle.gv_journal.specs.Fits.{FitsSpace};
 
 use crate::chance::{Area, Spread, operation};
 use crate::journal::playing::{Said, call, expect, whole};
@@ -10,7 +10,7 @@ use crate::text::tell;
 use crate::watch::{Row, Watch};
 use crate::words::{Clause, Verb};
 use gv_journal::{Item, ItemKind, Journal, Refusal};
-use gv_model::{Ground, History, Kind, Made, Past, Random, Turn, push};
+use gv_model::{History, HistoryEntry, Kind, Made, Random, SpaceModel, TakenRequest, push};
 use gv_space::Space;
 use gv_types::{Bounds, BufferId, Fault, Op, OutOfMemory, PageOp};
 use gv_vm::Outcome;
@@ -29,7 +29,7 @@ const AREA: Area = Area {
 /// What a space and its journal have to be by the definitions, and the operations of the next request.
 #[derive(Drop)]
 struct Round {
-    ground: Ground,
+    space_model: SpaceModel,
     ops: Vec<Op>,
 }
 
@@ -44,7 +44,7 @@ impl Round {
                 is_alive: true,
             })
             .collect(alloc)?;
-        let ground = Ground {
+        let space_model = SpaceModel {
             bounds: Bounds::whole(),
             limits: space.limits(),
             buffers,
@@ -55,29 +55,29 @@ impl Round {
             },
         };
         let ops = Vec::new(alloc);
-        Ok(Round { ground, ops })
+        Ok(Round { space_model, ops })
     }
 
     /// What a call answers by the definitions.
     fn answer(&mut self, alloc: Global, clause: &Clause) -> Result<Said, OutOfMemory> {
         let number = clause.numbers[0];
         Ok(whole(match clause.verb {
-            Verb::Rewind => self.ground.rewind(),
-            Verb::Withdraw => self.ground.withdraw(alloc, number),
-            Verb::Settle => self.ground.settle(alloc, number),
+            Verb::Rewind => self.space_model.rewind(),
+            Verb::Withdraw => self.space_model.withdraw(alloc, number),
+            Verb::Settle => self.space_model.settle(alloc, number),
             _ => return self.bind(alloc),
         }))
     }
 
     fn bind(&mut self, alloc: Global) -> Result<Said, OutOfMemory> {
         let ops = Vec::from_slice(alloc, &self.ops)?;
-        let turn = Turn {
+        let turn = TakenRequest {
             queue: 0,
-            number: self.ground.history.next(),
+            number: self.space_model.history.next(),
             request: request_of(alloc, ops),
             seen: Vec::new(alloc),
         };
-        Ok(match self.ground.bind(alloc, turn)? {
+        Ok(match self.space_model.bind(alloc, turn)? {
             Outcome::Accepted { entry } => Ok(entry),
             Outcome::Refused { op, fault } => Err(Refusal { op, fault }),
             Outcome::NotReady { have, .. } => Ok(have),
@@ -92,13 +92,13 @@ impl Round {
         journal: &Journal,
         ids: &[BufferId],
     ) -> Result<bool, OutOfMemory> {
-        let Ground { list, history, .. } = &self.ground;
+        let SpaceModel { list, history, .. } = &self.space_model;
         Ok(
             agrees(alloc, space, ids, list, history, &PAGES)?
                 && has_items(journal, history)
                 && PAGES
                     .iter()
-                    .all(|page| space.find(*page) == self.ground.view(*page)),
+                    .all(|page| space.find(*page) == self.space_model.view(*page)),
         )
     }
 }
@@ -115,7 +115,7 @@ fn has_items(journal: &Journal, history: &History) -> bool {
 }
 
 /// Whether an item is this entry.
-fn is_entry(item: &Item, entry: &Past) -> bool {
+fn is_entry(item: &Item, entry: &HistoryEntry) -> bool {
     match &entry.kind {
         Kind::Bind { done, .. } => is_bind(item, done),
         Kind::Withdrawal { of } => is_withdrawal(item, *of),
@@ -241,7 +241,7 @@ pub fn play(
         let is_right = turn(alloc, space, journal, watch, &mut round, &mut random)?;
         watch.count(is_right);
     }
-    tell(&mut watch.text, &[("right ", Some(watch.right))]);
+    tell(&mut watch.text, &[("right ", Some(watch.right_count))]);
     Ok(())
 }
 

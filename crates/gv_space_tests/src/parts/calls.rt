@@ -23,17 +23,17 @@ pub enum Call {
 }
 
 /// Where in the table a buffer is, how many pages it has, how many mappings of it are in the list, and how many in undo values.
-pub type Sight = [u64; 4];
+pub type BufferCounts = [u64; 4];
 
 /// Stands for each number of a buffer that is dead.
 pub const DEAD: u64 = u64::MAX;
 
 /// What is seen of a buffer that was never made.
-pub const NOBODY: Sight = [4_294_967_295, DEAD, DEAD, DEAD];
+pub const NOBODY: BufferCounts = [4_294_967_295, DEAD, DEAD, DEAD];
 
 /// The buffer that a call is on, by the order in which they were made; the call; its pages or its job, where it has any; the fault that it
 /// answers, if any; and what the table says of the buffer then.
-pub type Row = (usize, Call, u64, Option<Fault>, Sight);
+pub type Row = (usize, Call, u64, Option<Fault>, BufferCounts);
 
 /// What answers a row that no table can play.
 const STRANGE: Fault = Fault::Unmapped { access: 0 };
@@ -46,26 +46,26 @@ const ROOM: usize = 100;
 
 /// A table, and the ids of those that were made.
 #[derive(Drop)]
-pub struct Table {
+pub struct BufferTable {
     buffers: Buffers,
     ids: Vec<BufferId>,
 }
 
-impl Table {
+impl BufferTable {
     /// A table of at most `limit` buffers.
-    pub fn new(alloc: Global, limit: u64) -> Result<Table, Fault>
+    pub fn new(alloc: Global, limit: u64) -> Result<BufferTable, Fault>
         requires { IsFromOneTo greatest.buffers limit }
     {
-        Ok(Table {
+        Ok(BufferTable {
             buffers: Buffers::new(alloc, limit)?,
             ids: Vec::with_capacity(alloc, ROOM)?,
         })
     }
 
     /// The id of a buffer, by the order in which they were made.
-    fn id(&self, place: usize) -> BufferId {
+    fn id(&self, position: usize) -> BufferId {
         let nobody = BufferId::new(u32::MAX, 0);
-        self.ids.get(place).copied().unwrap_or(nobody)
+        self.ids.get(position).copied().unwrap_or(nobody)
     }
 
     /// Makes a buffer: each is the next.
@@ -79,8 +79,8 @@ impl Table {
     }
 
     /// What the table says of a buffer.
-    fn sight(&self, place: usize) -> Sight {
-        let id = &self.id(place);
+    fn sight(&self, position: usize) -> BufferCounts {
+        let id = &self.id(position);
         [
             u64::from(id.index),
             self.buffers.pages(*id).unwrap_or(DEAD),
@@ -90,8 +90,14 @@ impl Table {
     }
 
     /// Makes a call.
-    fn call(&mut self, alloc: Global, place: usize, call: Call, number: u64) -> Result<(), Fault> {
-        let id = &self.id(place);
+    fn call(
+        &mut self,
+        alloc: Global,
+        position: usize,
+        call: Call,
+        number: u64,
+    ) -> Result<(), Fault> {
+        let id = &self.id(position);
         match call {
             Call::Create => self.create(alloc, number),
             Call::Destroy => self.buffers.destroy(*id),
@@ -110,17 +116,17 @@ impl Table {
     pub fn call_at_last(
         &mut self,
         alloc: Global,
-        place: usize,
+        position: usize,
         call: Call,
         number: u64,
     ) -> Result<(), Fault> {
-        match self.call(alloc, place, call, number) {
+        match self.call(alloc, position, call, number) {
             Err(Fault::OutOfMemory) => {
                 if matches!(call, Call::Write) {
-                    self.call(alloc, place, Call::Read, READER)?;
+                    self.call(alloc, position, Call::Read, READER)?;
                     self.buffers.leave(READER);
                 }
-                self.call(alloc, place, call, number)
+                self.call(alloc, position, call, number)
             }
             said => said,
         }
@@ -134,10 +140,10 @@ impl Table {
         index: u64,
         rows: &[Row],
     ) -> Result<(), Fail> {
-        for (row, (place, call, number, fault, sight)) in rows.iter().enumerate() {
-            let place = first.saturating_add(*place);
-            let said = self.call_at_last(alloc, place, *call, *number);
-            let mut seen = self.sight(place);
+        for (row, (position, call, number, fault, sight)) in rows.iter().enumerate() {
+            let position = first.saturating_add(*position);
+            let said = self.call_at_last(alloc, position, *call, *number);
+            let mut seen = self.sight(position);
             seen[0] = seen[0].wrapping_sub(index);
             if said.err() != *fault || seen != *sight {
                 return Err(Fail::new(format_args!("buffers from {first}, row {row}")));
@@ -159,8 +165,8 @@ fn count(buffers: &mut Buffers, id: &BufferId, call: Call) -> Result<(), Fault> 
         Call::CountIn => buffers.count_in(*id),
         Call::Keep => buffers.keep(*id),
         Call::CountOut if uses > 0 => buffers.count_out(*id),
-        Call::TakeOut if uses > 0 => buffers.take_out(*id),
-        Call::BringBack if kept > 0 => buffers.bring_back(*id),
+        Call::TakeOut if uses > 0 => buffers.count_taken_out(*id),
+        Call::BringBack if kept > 0 => buffers.count_brought_back(*id),
         Call::Unkeep if kept > 0 => buffers.unkeep(*id),
         _ => return Err(STRANGE),
     }
@@ -171,6 +177,6 @@ fn count(buffers: &mut Buffers, id: &BufferId, call: Call) -> Result<(), Fault> 
 pub fn expect(alloc: Global, limit: u64, rows: &[Row]) -> Result<(), Fail>
     requires { IsFromOneTo greatest.buffers limit }
 {
-    let mut table = Table::new(alloc, limit)?;
+    let mut table = BufferTable::new(alloc, limit)?;
     table.play(alloc, 0, 0, rows)
 }

@@ -95,23 +95,23 @@ impl Lists {
     fn replace(
         &mut self,
         alloc: Global,
-        place: usize,
+        position: usize,
         out_count: usize,
         pieces: &[Packed],
     ) -> Result<(), Fail> {
         let len = self.block.len();
-        if self.list.len() != len || place > len || out_count > len - place {
+        if self.list.len() != len || position > len || out_count > len - position {
             return Err("a run that is not there".into());
         }
-        let head = &self.block[..place];
-        let tail = &self.block[place + out_count..];
+        let head = &self.block[..position];
+        let tail = &self.block[position + out_count..];
         let changed = [head, pieces, tail].concat(alloc)?;
         self.block = changed;
         self.list.reserve(pieces.len())?;
-        // Wherever the place is looked for first, the list is the same.
+        // Wherever the position is looked for first, the list is the same.
         let spot = Spot {
-            index: place,
-            near: self.made as usize % 5,
+            index: position,
+            hint: self.made as usize % 5,
         };
         self.list.splice(spot, out_count, pieces);
         Ok(())
@@ -124,14 +124,14 @@ fn play(alloc: Global, lists: &mut Lists, phase: &Phase, random: &mut Random) ->
         let len = lists.block.len() as u64;
         let out_count = random.below(phase.most_out.saturating_add(1)).min(len);
         let left = len - out_count;
-        let place = if phase.at_end {
+        let position = if phase.at_end {
             left
         } else {
             random.below(left.saturating_add(1))
         };
         let count = random.below(phase.most_in.saturating_add(1));
         let pieces = fresh(alloc, count, &mut lists.made)?;
-        lists.replace(alloc, place as usize, out_count as usize, &pieces)?;
+        lists.replace(alloc, position as usize, out_count as usize, &pieces)?;
         if round % 20 == 0 && !holds(&lists.list, &lists.block) {
             return Err("another list".into());
         }

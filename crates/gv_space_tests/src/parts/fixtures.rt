@@ -87,23 +87,23 @@ fn copied(alloc: Global, run: Run<'_>) -> Result<Vec<Packed>, OutOfMemory>
     Ok(copy)
 }
 
-/// What stands in place of a run that meets the operation's range.
+/// What replaces a run that meets the operation's range.
 fn replacement(
     alloc: Global,
     list: &RangeList,
-    place: usize,
+    position: usize,
     count: usize,
     op: &PageOp,
 ) -> Result<Vec<Packed>, OutOfMemory>
     requires op { IsPageOp op.now }
-    requires within { place + count ≤ length list.now.mappings }
-    requires meeting { All (λ m. IsTrue (meets m.range (range_of op.now))) (run list.now.mappings place count) }
-    ensures { IfOk result (λ pieces. pieces.items ≡ edited (run list.now.mappings place count) op.now) }
+    requires within { position + count ≤ length list.now.mappings }
+    requires meeting { All (λ m. IsTrue (meets m.range (range_of op.now))) (run list.now.mappings position count) }
+    ensures { IfOk result (λ pieces. pieces.items ≡ edited (run list.now.mappings position count) op.now) }
 {
     // Tells that the list is laid out.
     let _len = list.len();
     let range = op.range();
-    let here = copied(alloc, list.run(place, count))?;
+    let here = copied(alloc, list.run(position, count))?;
     let mut pieces = Vec::new(alloc);
     add(&mut pieces, prev_rest(&here, range.first()))?;
     add(&mut pieces, Packed::own(op))?;
@@ -117,12 +117,12 @@ pub fn edit(alloc: Global, list: &mut RangeList, op: &PageOp) -> Result<(), OutO
     ensures ok { OnOk result (list.new.mappings ≡ edited list.old.mappings op.now) }
     ensures laid_out { IsLaidOut list.old.mappings }
 {
-    let (place, count) = list.overlapping(op.range());
+    let (position, count) = list.overlapping(op.range());
     // Tells that the list is laid out.
     let _len = list.len();
-    let pieces = replacement(alloc, list, place, count, op)?;
+    let pieces = replacement(alloc, list, position, count, op)?;
     list.reserve(pieces.len())?;
-    list.splice(place, count, &pieces);
+    list.splice(position, count, &pieces);
     Ok(())
 }
 

@@ -30,8 +30,8 @@ impl Both {
 
     /// Destroys one of those that were made. Whether it is refused just where that was destroyed before.
     fn destroy(&mut self, random: &mut Random) -> Result<bool, Fail> {
-        let place = random.below((self.made.len() as u64).max(1));
-        let (id, pages) = self.made.get_mut(place as usize).ok_or("none was made")?;
+        let position = random.below((self.made.len() as u64).max(1));
+        let (id, pages) = self.made.get_mut(position as usize).ok_or("none was made")?;
         let was_alive = pages.take().is_some();
         self.alive = self.alive.saturating_sub(u64::from(was_alive));
         let wanted = (!was_alive).then_some(Fault::NoBuffer);

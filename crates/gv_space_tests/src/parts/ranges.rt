@@ -30,7 +30,7 @@ fn definitions_hold(_rt: HostRuntime) {
     examples();
     laws::edits();
     laws::restores();
-    laws::meetings();
+    laws::overlaps();
 }
 
 /// Four maps, the last of which cuts three others.
@@ -125,21 +125,21 @@ fn is_found_alike(list: &RangeList, all: &[Packed], k: u32) -> bool {
     else {
         return false;
     };
-    let cut = list.cut(range);
+    let overlap = list.overlap(range);
     let spots = [
-        cut.spot,
+        overlap.spot,
         Spot::anywhere(index),
         Spot {
             index,
-            near: index * 613 % 13,
+            hint: index * 613 % 13,
         },
         Spot {
             index,
-            near: list.near(page),
+            hint: list.hint(page),
         },
     ];
     list.overlapping(range) == (index, count)
-        && (cut.spot.index, cut.count) == (index, count)
+        && (overlap.spot.index, overlap.count) == (index, count)
         && are_read(list, &spots, wanted)
 }
 
@@ -154,8 +154,8 @@ fn a_list_answers_the_same_wherever_it_looks_first(rt: HostRuntime) -> Result<()
         assert!(rt; is_found_alike(&list, &all, k), "at {k}");
     }
     for page in &NEAR {
-        let near = list.near(*page);
-        let whole = [Spot { index: 0, near }];
+        let hint = list.hint(*page);
+        let whole = [Spot { index: 0, hint }];
         assert!(rt; are_read(&list, &whole, &all), "looked at {page}");
     }
     Ok(())

@@ -7,7 +7,7 @@ ghost use Rattle.gv_types.specs.declared.mapping.BufferId.{BufferId};
 ghost use Rattle.gv_types.specs.declared.mapping.Mapping.{Mapping};
 ghost use Rattle.gv_ranges.specs.List.{IsLaidOut};
 ghost use Rattle.gv_ranges.specs.Edit.{clipped};
-ghost use Rattle.gv_table.specs.Names.{AreNamed};
+ghost use Rattle.gv_table.specs.BufferNames.{AreNamed};
 ghost use Rattle.gv_table.specs.Reads.{AreAlikeOutside};
 ghost use Rattle.gv_table.specs.Kinds.{AreEnough};
 ghost use Rattle.gv_table.specs.Table.{IsTree, FitsOutside, gained_by};
@@ -55,15 +55,15 @@ fn sway(
     ensures tree { IsTree new.now.mappings table.new }
     ensures names { table.new.names ≡ table.old.names }
 {
-    let (place, _) = new.overlapping(range);
+    let (position, _) = new.overlapping(range);
     let mut lost = Spares::new();
-    table.paint(new, range, place, spares, &mut lost);
+    table.paint(new, range, position, spares, &mut lost);
     let after = table.tables();
     let (back_from, _) = old.overlapping(range);
     let mut gained = Spares::new();
     table.paint(old, range, back_from, &mut lost, &mut gained);
     let back = table.tables();
-    table.paint(new, range, place, &mut gained, &mut lost);
+    table.paint(new, range, position, &mut gained, &mut lost);
     [after, back, table.tables()]
 }
 

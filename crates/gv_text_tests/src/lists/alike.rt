@@ -1,7 +1,7 @@
 //! Lists by chance: what is said of lines and of texts has the digests that the first, plain way of reading gave them.
 
 use super::digests::{LINES, TEXTS};
-use super::made::Made;
+use super::made::RandomLists;
 use crate::digest::digest_of;
 use gv_compare::{Kind, Listing, Objects, Row, Which, is_of_dump};
 use std::alloc::{AllocError, Global};
@@ -12,7 +12,7 @@ use std::test::Fail;
 fn push_line(
     alloc: Global,
     said: &mut String,
-    made: &mut Made,
+    made: &mut RandomLists,
     is_dump: bool,
 ) -> Result<bool, AllocError> {
     let mut line = Vec::new(alloc);
@@ -25,7 +25,7 @@ fn push_line(
 #[test]
 fn lines_are_read_alike(rt: HostRuntime) -> Result<(), Fail> {
     let alloc = rt.alloc();
-    let mut made = Made::new(1);
+    let mut made = RandomLists::new(1);
     let mut rows = 0u64;
     for (block, wanted) in LINES.iter().enumerate() {
         let mut said = String::new(alloc);
@@ -46,7 +46,7 @@ const OUTCOMES: [&str; 4] = ["{ kind: Map", "{ kind: Dump", "NoMapping", "Overla
 fn push_text(
     alloc: Global,
     said: &mut String,
-    made: &mut Made,
+    made: &mut RandomLists,
     objects: &mut Objects,
     list: Which,
 ) -> Result<(), AllocError> {
@@ -65,7 +65,7 @@ fn push_names(said: &mut String, objects: &Objects) -> Result<(), AllocError> {
 }
 
 /// Adds what is said of two texts, as the first list and the second.
-fn push_pair(alloc: Global, said: &mut String, made: &mut Made) -> Result<(), AllocError> {
+fn push_pair(alloc: Global, said: &mut String, made: &mut RandomLists) -> Result<(), AllocError> {
     let mut objects = Objects::new(alloc);
     push_text(alloc, said, made, &mut objects, Which::First)?;
     push_text(alloc, said, made, &mut objects, Which::Second)?;
@@ -75,7 +75,7 @@ fn push_pair(alloc: Global, said: &mut String, made: &mut Made) -> Result<(), Al
 #[test]
 fn lists_are_read_alike(rt: HostRuntime) -> Result<(), Fail> {
     let alloc = rt.alloc();
-    let mut made = Made::new(2);
+    let mut made = RandomLists::new(2);
     let mut seen = String::new(alloc);
     for (block, wanted) in TEXTS.iter().enumerate() {
         let mut said = String::new(alloc);

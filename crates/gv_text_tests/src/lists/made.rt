@@ -134,7 +134,7 @@ const ASTRAY: [u64; 4] = [u64::MAX, 24, 6, 3];
 
 /// Texts by chance. Of a text's choices one in `odd` is odd, and of its mappings one in `astray` out of order.
 #[derive(Drop)]
-pub struct Made {
+pub struct RandomLists {
     random: Random,
     odd: u64,
     astray: u64,
@@ -143,10 +143,10 @@ pub struct Made {
     end: u64,
 }
 
-impl Made {
+impl RandomLists {
     /// The texts that a seed begins.
-    pub fn new(seed: u64) -> Made {
-        Made {
+    pub fn new(seed: u64) -> RandomLists {
+        RandomLists {
             random: Random::new(seed),
             odd: 12,
             astray: 12,

@@ -1,6 +1,6 @@
 //! Address spaces told apart: each as it is told alone, and what is wrong with their names.
 
-use crate::logs::made::Drawn;
+use crate::logs::made::RandomLog;
 use crate::logs::told::{expect_told, told};
 use std::alloc::{AllocError, Global};
 use std::process::Abort;
@@ -93,7 +93,7 @@ fn expect_logs_apart(rt: &(impl Abort + AllocGlobal), kind: &Kind) -> Result<(),
     let mut found: u64 = 0;
     for seed in 0..LOGS {
         let mut log = String::new(rt.alloc());
-        Drawn::new(seed).write_lines(&mut log, kind.forms, LINES)?;
+        RandomLog::new(seed).write_lines(&mut log, kind.forms, LINES)?;
         found = found.saturating_add(expect_apart(rt, log.as_str(), kind)?);
     }
     assert!(rt; found > 20, "{found}");

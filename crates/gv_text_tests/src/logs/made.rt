@@ -87,16 +87,16 @@ pub const OF_XE: &[&str] = &[
 
 /// Numbers by chance: of the line of this number, where a range began at the last.
 #[derive(Drop)]
-pub struct Drawn {
+pub struct RandomLog {
     pub random: Random,
     pub line: u64,
     pub last: u64,
 }
 
-impl Drawn {
+impl RandomLog {
     /// Those of a seed.
-    pub fn new(seed: u64) -> Drawn {
-        Drawn {
+    pub fn new(seed: u64) -> RandomLog {
+        RandomLog {
             random: Random::new(seed),
             line: 0,
             last: 0,
@@ -111,8 +111,8 @@ impl Drawn {
         lines: u64,
     ) -> Result<(), AllocError> {
         for _ in 0..lines {
-            let place = self.random.below((forms.len() as u64).max(1));
-            let form = forms.get(place as usize).copied().unwrap_or("");
+            let index = self.random.below((forms.len() as u64).max(1));
+            let form = forms.get(index as usize).copied().unwrap_or("");
             write_form(log, form, self)?;
             self.line = self.line.saturating_add(1);
         }
@@ -169,7 +169,7 @@ const LETTERS: &[(u8, Start, u64, u64)] = &[
     (b'w', Start::Here(0), 1, 3),
 ];
 
-impl Drawn {
+impl RandomLog {
     /// Where a number begins.
     fn first(&mut self, start: Start) -> u64 {
         match start {
@@ -181,7 +181,7 @@ impl Drawn {
     }
 }
 
-impl Numbers for Drawn {
+impl Numbers for RandomLog {
     /// Ranges begin at few places and overlap; seldom they begin behind their page's first byte.
     fn number(&mut self, letter: u8) -> u64 {
         for (other, start, step, bound) in LETTERS {

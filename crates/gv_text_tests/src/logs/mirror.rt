@@ -90,8 +90,8 @@ impl Watcher for Mirror {
     }
 
     fn destroyed(&mut self, buffer: u64) -> Result<(), ReplayFault> {
-        let place = buffer.wrapping_sub(1) as usize;
-        let Some(id) = self.made.get(place) else {
+        let index = buffer.wrapping_sub(1) as usize;
+        let Some(id) = self.made.get(index) else {
             return Err(DIFFERS);
         };
         self.vm.destroy(*id).map_err(|_| DIFFERS)

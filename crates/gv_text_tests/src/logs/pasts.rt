@@ -1,7 +1,7 @@
 //! What a replay tells of addresses, against what comes of taking its entries back one by one.
 
 use crate::logs::forms::{Given, write_form};
-use crate::logs::made::{Drawn, OF_AMDGPU, OF_RADV, OF_XE};
+use crate::logs::made::{OF_AMDGPU, OF_RADV, OF_XE, RandomLog};
 use crate::logs::rewound::rewound;
 use crate::logs::told::terms_of;
 use gv_replay::{ReplayFault, Terms, replay};
@@ -57,7 +57,7 @@ fn agrees_on(
     alloc: Global,
     words: &str,
     log: &str,
-    drawn: &mut Drawn,
+    drawn: &mut RandomLog,
 ) -> Result<bool, ReplayFault> {
     let addresses = drawn.addresses(alloc)?;
     agrees(alloc, log.as_bytes(), &terms_of(words, &addresses))
@@ -71,7 +71,7 @@ fn expect_past(
     forms: &[&str],
     seed: u64,
 ) -> Result<(), Fail> {
-    let mut drawn = Drawn::new(seed);
+    let mut drawn = RandomLog::new(seed);
     let mut log = String::from_str(rt.alloc(), head)?;
     drawn.write_lines(&mut log, forms, seed.saturating_add(1))?;
     let is_alike = agrees_on(rt.alloc(), words, log.as_str(), &mut drawn)?;
@@ -118,7 +118,7 @@ fn write_accepted(log: &mut String) -> Result<(), AllocError> {
 }
 
 /// Writes them, and others by chance on both sides.
-fn write_long(log: &mut String, drawn: &mut Drawn) -> Result<(), AllocError> {
+fn write_long(log: &mut String, drawn: &mut RandomLog) -> Result<(), AllocError> {
     drawn.write_lines(log, OF_RADV, AROUND)?;
     write_accepted(log)?;
     drawn.write_lines(log, OF_RADV, AROUND)
@@ -127,7 +127,7 @@ fn write_long(log: &mut String, drawn: &mut Drawn) -> Result<(), AllocError> {
 /// As many entries are held as may be, and older ones are settled.
 #[test]
 fn pasts_are_those_of_all_that_are_held(rt: HostRuntime) -> Result<(), Fail> {
-    let mut drawn = Drawn::new(LOGS);
+    let mut drawn = RandomLog::new(LOGS);
     let mut log = String::new(rt.alloc());
     write_long(&mut log, &mut drawn)?;
     let is_alike = agrees_on(rt.alloc(), RADV, log.as_str(), &mut drawn)?;

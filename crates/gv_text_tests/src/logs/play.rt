@@ -1,4 +1,4 @@
-//! The worked rows.
+//! Replays each row of the tables beside this file.
 
 use crate::logs::told::expect_rows;
 use std::alloc::AllocError;

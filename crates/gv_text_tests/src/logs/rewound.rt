@@ -1,4 +1,4 @@
-//! What addresses reached before, as it was told before the journal was asked: the held entries are taken back one after another, the
+//! What addresses reached before, worked out without asking the journal: the held entries are rewound one after another, the
 //! newest first.
 
 use crate::logs::mirror::{DIFFERS, Mirror};

@@ -2,8 +2,8 @@
 ghost use Rattle.std.specs.Prelude.{◌≡◌, ◌+◌, ◌<◌, ◌≤◌, ◌++◌, min, length, take, drop, replicate, position, None, IfOk, IsOk, OnOk, OnErr, MatchOption};
 ghost use Rattle.gv_journal.specs.Notes.{lesser};
 ghost use Rattle.gv_vm.specs.Outcomes.{queues, lifetime_told, told_to, forgotten_outcome};
-ghost use Rattle.gv_vm.specs.Forgetting.{forget_fault, held_below, is_told_below, with_forgotten};
-ghost use Rattle.gv_vm.specs.HeldInside.{held_by, least_held};
+ghost use Rattle.gv_vm.specs.Forgetting.{forget_fault, least_held_below, is_told_below, with_forgotten};
+ghost use Rattle.gv_vm.specs.HeldEntries.{held_by, least_held};
 ghost use Rattle.gv_vm.specs.State.{forgotten_of, told_limit};
 
 use super::Vm;
@@ -65,7 +65,7 @@ impl Vm {
         if to < first || self.told_next(queue) < to {
             return Err(Fault::NoOutcome);
         }
-        if let Some(by) = self.held_below(queue, to) {
+        if let Some(by) = self.least_held_below(queue, to) {
             return Err(Fault::Held { by });
         }
         self.told[queue as usize].forget(to);
@@ -74,8 +74,8 @@ impl Vm {
 
     /// The least held entry of a queue whose number there is below this one. It looks at the outcomes below that number or at the
     /// entries held, whichever are fewer: with many entries held it is fast to forget a few outcomes at a time.
-    fn held_below(&self, queue: u64, to: u64) -> Option<u64>
-        ensures { result ≡ held_below self.now.journal queue to }
+    fn least_held_below(&self, queue: u64, to: u64) -> Option<u64>
+        ensures { result ≡ least_held_below self.now.journal queue to }
     {
         // For the prover: what always holds of the machine.
         let _space = self.space();
@@ -130,9 +130,9 @@ impl Vm {
         }
     }
 
-    /// The same as `held_below`, by the entries: the first such one is the least.
+    /// The same as `least_held_below`, by the entries: the first such one is the least.
     fn first_held_below(&self, queue: u64, to: u64) -> Option<u64>
-        ensures { result ≡ held_below self.now.journal queue to }
+        ensures { result ≡ least_held_below self.now.journal queue to }
     {
         let first = self.journal.first();
         // For the prover: that the numbers of all entries fit.

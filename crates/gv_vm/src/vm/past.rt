@@ -3,7 +3,7 @@ ghost use Rattle.std.specs.Prelude.{◌≡◌, ◌<◌, ◌≤◌, IfOk, IsErr, 
 ghost use Rattle.std.specs.Option.{option_and_then};
 ghost use Rattle.gv_journal.specs.Items.{entries, is_withdrawn, next};
 ghost use Rattle.gv_journal.specs.Withdrawing.{item_at};
-ghost use Rattle.gv_vm.specs.AddressPast.{past_item, past_of, place_under};
+ghost use Rattle.gv_vm.specs.AddressPast.{effect_at, past_of, place_under};
 
 use super::Vm;
 use crate::places::{Place, Target, place_by};
@@ -33,7 +33,7 @@ impl Vm {
         });
         let mut list = Vec::new(alloc);
         for number in (self.first()..self.next()).rev() {
-            if let Some(item) = self.past_item(number, addr) {
+            if let Some(item) = self.effect_at(number, addr) {
                 list.push(item)?;
             }
         }
@@ -52,17 +52,17 @@ impl Vm {
     }
 
     /// What the item with this number did to an address.
-    fn past_item(&self, number: u64, addr: u64) -> Option<PastItem>
+    fn effect_at(&self, number: u64, addr: u64) -> Option<PastItem>
         requires not_settled { self.now.journal.first ≤ number }
         requires there { number < next self.now.journal }
-        ensures { result ≡ option_and_then (λ item. past_item (is_withdrawn (entries self.now.journal)) addr
+        ensures { result ≡ option_and_then (λ item. effect_at (is_withdrawn (entries self.now.journal)) addr
             (record { number = number; item = item })) (item_at self.now.journal number) }
     {
         // For the prover: what always holds of the machine and of the items.
         let (_space, _items) = (self.space(), self.journal.items());
         // The borrow checker proves this only where the function names the types inside what is said and what is answered.
         let (_backing, _target) = (Backing::Zero, Target::Zero);
-        let said = self.journal.said_of(number, addr / PAGE_BYTES)?;
+        let said = self.journal.covering_op(number, addr / PAGE_BYTES)?;
         Some(PastItem {
             entry: number,
             is_withdrawn: said.is_withdrawn,

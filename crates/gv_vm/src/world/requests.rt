@@ -5,7 +5,7 @@ ghost use Rattle.gv_vm.specs.Outcomes.{queues, told_to, tell_fault};
 ghost use Rattle.gv_vm.specs.State.{told_limit};
 ghost use Rattle.gv_vm.specs.BindOutcome.{IsBoundAndTold, seen_by};
 ghost use Rattle.gv_vm.specs.Step.{owed_in, owed_for};
-ghost use Rattle.gv_vm.specs.Turns.{IsToldLacking, IsPutReply};
+ghost use Rattle.gv_vm.specs.QueueEvents.{IsToldLacking, IsPutReply};
 
 use super::World;
 use crate::event::{Event, Reply};
@@ -84,19 +84,19 @@ impl World {
         if queue >= self.queues.len() as u64 {
             return Ok(Reply::Idle);
         }
-        let place = &mut self.queues[queue as usize];
-        let Some(hand) = place.ready() else {
+        let own_queue = &mut self.queues[queue as usize];
+        let Some(hand) = own_queue.take_ready() else {
             return Ok(Reply::Idle);
         };
         let number = self.vm.told_next(queue);
         let Bound { outcome, owed } = match bind_hand(alloc, &mut self.vm, queue, number, hand) {
             Ok(bound) => bound,
             Err(hand) => {
-                place.hold(hand);
+                own_queue.hold(hand);
                 return Err(OutOfMemory);
             }
         };
-        place.owe(owed);
+        own_queue.owe(owed);
         Ok(Reply::Told { number, outcome })
     }
 
@@ -107,15 +107,15 @@ impl World {
         if queue >= self.queues.len() as u64 {
             return Ok(Reply::Idle);
         }
-        let place = &mut self.queues[queue as usize];
-        let Some(hand) = place.lacking() else {
+        let own_queue = &mut self.queues[queue as usize];
+        let Some(hand) = own_queue.take_lacking() else {
             return Ok(Reply::Idle);
         };
         let number = self.vm.told_next(queue);
         match give_up_hand(&mut self.vm, queue, number, hand) {
             Ok(outcome) => Ok(Reply::Told { number, outcome }),
             Err(hand) => {
-                place.hold(hand);
+                own_queue.hold(hand);
                 return Err(OutOfMemory);
             }
         }

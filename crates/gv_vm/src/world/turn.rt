@@ -5,12 +5,12 @@ ghost use Rattle.gv_types.specs.declared.request.Request.{Request as Asked};
 ghost use Rattle.gv_vm.specs.declared.event.Reply.{Reply as Answer};
 ghost use Rattle.gv_vm.specs.Plans.{Plan, Goes, IsCarriedOut, IsStopped, nothing, paying, looks, carrying_out, after_looks};
 ghost use Rattle.gv_vm.specs.QueueTurns.{turn_of, going_on, is_earlier, IsTurn, IsServedUpTo, IsQuiet};
-ghost use Rattle.gv_vm.specs.TurnInside.{AreLeft, IsLeftIn, AreQuiet, AreLooks, seen_as, seen_of};
+ghost use Rattle.gv_vm.specs.TurnParts.{AreRemaining, IsRemainingIn, AreQuiet, AreLooks, seen_as, seen_of};
 ghost use Rattle.gv_vm.specs.World.{HandState, queue_at, next_number};
 
 use super::World;
-use crate::ahead::{Ahead, Left};
 use crate::event::{Event, Reply};
+use crate::next_turn::{NextTurn, Remaining};
 use crate::outcome::Outcome;
 use crate::told::QUEUES;
 use gv_types::{OutOfMemory, Point};
@@ -18,7 +18,7 @@ use std::alloc::Global;
 
 /// The result of a turn of a queue.
 #[derive(Clone, Copy, Debug, PartialEq, Eq)]
-pub enum Turn {
+pub enum TurnResult {
     /// The request with this number of the queue has this outcome.
     Told { number: u64, outcome: Outcome },
     /// The request stays in hand, since this wait is not reached: its timeline is at `have`.
@@ -30,25 +30,25 @@ pub enum Turn {
 /// The result of all looks of a request.
 #[derive(Clone, Copy)]
 enum Seen {
-    AllReached,
+    NoneLacked,
     Lacks { point: Point, have: u64 },
     Other,
 }
 
 /// What a last reply says of its turn.
-fn turn_in(reply: &Reply) -> Turn
+fn turn_in(reply: &Reply) -> TurnResult
     ensures { result ≡ turn_of (reply.now ∷ []) }
 {
     match reply {
-        Reply::Told { number, outcome } => Turn::Told {
+        Reply::Told { number, outcome } => TurnResult::Told {
             number: *number,
             outcome: *outcome,
         },
-        Reply::Lacking { point, have } => Turn::Waits {
+        Reply::Lacking { point, have } => TurnResult::Waits {
             point: *point,
             have: *have,
         },
-        _ => Turn::Idle,
+        _ => TurnResult::Idle,
     }
 }
 
@@ -57,7 +57,7 @@ fn seen_in(reply: &Reply) -> Seen
     ensures { result ≡ seen_of reply.now }
 {
     match reply {
-        Reply::Reached { .. } => Seen::AllReached,
+        Reply::Reached { .. } => Seen::NoneLacked,
         Reply::Lacking { point, have } => Seen::Lacks {
             point: *point,
             have: *have,
@@ -67,11 +67,11 @@ fn seen_in(reply: &Reply) -> Seen
 }
 
 /// Whether a turn gave an outcome to a request before the one with this number.
-fn is_earlier(number: u64, turn: &Result<Turn, OutOfMemory>) -> bool
+fn is_earlier(number: u64, turn: &Result<TurnResult, OutOfMemory>) -> bool
     ensures { result ≡ is_earlier number turn.now }
 {
     match turn {
-        Ok(Turn::Told { number: told, .. }) => *told != number,
+        Ok(TurnResult::Told { number: told, .. }) => *told != number,
         _ => false,
     }
 }
@@ -82,16 +82,21 @@ impl World {
     /// reached, the request stays in hand, or is given up if `gives_up`. `Idle` if nothing is in hand and nothing waits, and on a
     /// queue that doesn't exist. `OutOfMemory` at an event of it that may grow: all is as the events before made it, and the
     /// next turn goes on from there.
-    pub fn turn(&mut self, alloc: Global, queue: u64, gives_up: bool) -> Result<Turn, OutOfMemory>
+    pub fn turn(
+        &mut self,
+        alloc: Global,
+        queue: u64,
+        gives_up: bool,
+    ) -> Result<TurnResult, OutOfMemory>
         ensures { IsTurn gives_up queue self.old result self.new }
     {
-        let Ahead { owed, left } = self.ahead(queue);
+        let NextTurn { owed, remaining } = self.next_turn(queue);
         if !self.pay_all(alloc, queue, owed) {
-            return Ok(Turn::Idle);
+            return Ok(TurnResult::Idle);
         }
-        match left {
-            Some(left) => self.go_on(alloc, queue, gives_up, left),
-            None => Ok(Turn::Idle),
+        match remaining {
+            Some(remaining) => self.go_on(alloc, queue, gives_up, remaining),
+            None => Ok(TurnResult::Idle),
         }
     }
 
@@ -102,12 +107,12 @@ impl World {
         alloc: Global,
         queue: u64,
         number: u64,
-    ) -> Result<Turn, OutOfMemory>
+    ) -> Result<TurnResult, OutOfMemory>
         ensures { IsServedUpTo queue number self.old result self.new }
     {
         let told = self.next_number(queue);
         if number < told {
-            return Ok(Turn::Idle);
+            return Ok(TurnResult::Idle);
         }
         for done in 0..number - told {
             let turn = self.turn(alloc, queue, false);
@@ -118,28 +123,28 @@ impl World {
         self.turn(alloc, queue, false)
     }
 
-    /// What is left to do in the next turn of a queue: nothing on a queue that doesn't exist.
-    fn ahead(&self, queue: u64) -> Ahead
+    /// What remains to do in the next turn of a queue: nothing on a queue that doesn't exist.
+    fn next_turn(&self, queue: u64) -> NextTurn
         ensures owed { length (queue_at self.now queue).owed ≡ result.owed }
-        ensures left { IsLeftIn (queue_at self.now queue).hand (queue_at self.now queue).waiting result.left }
+        ensures remaining { IsRemainingIn (queue_at self.now queue).hand (queue_at self.now queue).waiting result.remaining }
     {
         if queue < self.queues.len() as u64 {
-            self.queues[queue as usize].ahead()
+            self.queues[queue as usize].next_turn()
         } else {
-            Ahead {
+            NextTurn {
                 owed: 0,
-                left: None,
+                remaining: None,
             }
         }
     }
 
-    /// Whether a queue has nothing left to do: no request waits or is in hand, and no signal is owed. True if there is no such queue.
+    /// Whether a queue has nothing remaining to do: no request waits or is in hand, and no signal is owed. True if there is no such queue.
     #[tactic(auto, using(crate::proofs::QueueTurns::quiet_iff))]
     pub fn is_quiet(&self, queue: u64) -> bool
         ensures { IsTrue result ↔ IsQuiet self.now queue }
     {
-        let Ahead { owed, left } = self.ahead(queue);
-        owed == 0 && left.is_none()
+        let NextTurn { owed, remaining } = self.next_turn(queue);
+        owed == 0 && remaining.is_none()
     }
 
     /// The number of the request that gets the queue's next outcome.
@@ -177,23 +182,23 @@ impl World {
         alloc: Global,
         queue: u64,
         gives_up: bool,
-        left: Left,
-    ) -> Result<Turn, OutOfMemory>
+        remaining: Remaining,
+    ) -> Result<TurnResult, OutOfMemory>
         ensures went { IfOk result (λ turn. (replies : List Answer) × (turn ≡ turn_of replies)
-            × ((hand : Option HandState) (waiting : List Asked) → IsLeftIn hand waiting (Some left)
+            × ((hand : Option HandState) (waiting : List Asked) → IsRemainingIn hand waiting (Some remaining)
             → IsCarriedOut (going_on gives_up queue hand waiting) self.old replies self.new)) }
         ensures stopped { OnErr result ((replies : List Answer)
-            × ((hand : Option HandState) (waiting : List Asked) → IsLeftIn hand waiting (Some left)
+            × ((hand : Option HandState) (waiting : List Asked) → IsRemainingIn hand waiting (Some remaining)
             → IsStopped (going_on gives_up queue hand waiting) self.old replies self.new)) }
     {
-        if left.in_hand {
-            return self.serve_hand(alloc, queue, gives_up, left);
+        if remaining.in_hand {
+            return self.serve_hand(alloc, queue, gives_up, remaining);
         }
         let reply = self.step(alloc, Event::Take { queue })?;
         if !reply.is_taken() {
-            return Ok(Turn::Idle);
+            return Ok(TurnResult::Idle);
         }
-        self.serve_hand(alloc, queue, gives_up, left)
+        self.serve_hand(alloc, queue, gives_up, remaining)
     }
 
     /// The request in hand looks at its waits, and is carried out, given up or left in hand.
@@ -202,25 +207,25 @@ impl World {
         alloc: Global,
         queue: u64,
         gives_up: bool,
-        left: Left,
-    ) -> Result<Turn, OutOfMemory>
+        remaining: Remaining,
+    ) -> Result<TurnResult, OutOfMemory>
         ensures served { IfOk result (λ turn. (replies : List Answer) × (turn ≡ turn_of replies)
-            × ((waits signals : List At) → AreLeft waits signals left
+            × ((waits signals : List At) → AreRemaining waits signals remaining
             → IsCarriedOut (looks gives_up queue waits signals) self.old replies self.new)) }
         ensures stopped { OnErr result ((replies : List Answer)
-            × ((waits signals : List At) → AreLeft waits signals left
+            × ((waits signals : List At) → AreRemaining waits signals remaining
             → IsStopped (looks gives_up queue waits signals) self.old replies self.new)) }
     {
-        match self.look_all(alloc, queue, left.waits)? {
-            Seen::AllReached => self.carry_out(alloc, queue, left.signals),
+        match self.look_all(alloc, queue, remaining.waits)? {
+            Seen::NoneLacked => self.carry_out(alloc, queue, remaining.signals),
             Seen::Lacks { point, have } => {
                 if !gives_up {
-                    return Ok(Turn::Waits { point, have });
+                    return Ok(TurnResult::Waits { point, have });
                 }
                 let reply = self.step(alloc, Event::GiveUp { queue })?;
                 Ok(turn_in(&reply))
             }
-            Seen::Other => Ok(Turn::Idle),
+            Seen::Other => Ok(TurnResult::Idle),
         }
     }
 
@@ -236,16 +241,21 @@ impl World {
         for done in 0..waits {
             let reply = self.step(alloc, Event::Look { queue })?;
             match seen_in(&reply) {
-                Seen::AllReached => {}
+                Seen::NoneLacked => {}
                 Seen::Lacks { point, have } => return Ok(Seen::Lacks { point, have }),
                 Seen::Other => return Ok(Seen::Other),
             }
         }
-        Ok(Seen::AllReached)
+        Ok(Seen::NoneLacked)
     }
 
     /// Carries out the request in hand, all of whose waits are reached. If it is accepted, raises its signals, `signals` in number.
-    fn carry_out(&mut self, alloc: Global, queue: u64, signals: usize) -> Result<Turn, OutOfMemory>
+    fn carry_out(
+        &mut self,
+        alloc: Global,
+        queue: u64,
+        signals: usize,
+    ) -> Result<TurnResult, OutOfMemory>
         ensures carried { IfOk result (λ turn. (replies : List Answer) × (turn ≡ turn_of replies)
             × ((points : List At) → length points ≡ signals
             → IsCarriedOut (carrying_out queue points) self.old replies self.new)) }

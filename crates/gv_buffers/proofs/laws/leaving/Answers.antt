@@ -1,4 +1,4 @@
-use Rattle.gv_buffers.proofs.TakenBack.{leave_takes_back_join, leave_of_no_user}
+use Rattle.gv_buffers.proofs.LeaveUndoesJoin.{leave_takes_back_join, leave_of_no_user}
 use Rattle.gv_buffers.proofs.laws.leaving.Goals as goal
 
 pub returns : goal.returns

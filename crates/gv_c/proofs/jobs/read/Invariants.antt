@@ -1,7 +1,7 @@
 use Rattle.std.proofs.Common.{◌≡◌, drop, length, vec_len, vec_capacity}
 use Rattle.gv_c.specs.Values.{all_of}
 use Rattle.gv_c.specs.Binding.{access_of}
-use Rattle.gv_c.proofs.ReadingLemmas.{after}
+use Rattle.gv_c.proofs.ListReadLemmas.{after}
 use Rattle.gv_c.proofs.jobs.read.Given as goal
 
 abbrev pub invariant-loop-access : goal.invariant-loop-access

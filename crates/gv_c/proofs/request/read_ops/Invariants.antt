@@ -1,6 +1,6 @@
 use Rattle.std.proofs.Common.{◌≡◌, drop, length, vec_len, vec_capacity}
 use Rattle.gv_c.specs.Values.{all_of, op_of}
-use Rattle.gv_c.proofs.ReadingLemmas.{after}
+use Rattle.gv_c.proofs.ListReadLemmas.{after}
 use Rattle.gv_c.proofs.request.read_ops.Given as goal
 
 abbrev pub invariant-loop-op : goal.invariant-loop-op

@@ -19,4 +19,4 @@ returns-clause-much c d e first second k any low within =
     rw at (omega arith)
 
 pub returns-clause-fit : goal.returns-clause-fit
-returns-clause-fit c d e first second settled = absurd (omega (arith, settled 0 d (omega arith) (omega arith)))
+returns-clause-fit c d e first second merged = absurd (omega (arith, merged 0 d (omega arith) (omega arith)))

@@ -1,5 +1,5 @@
 use Rattle.std.proofs.Common.{◌++◌, ◌∙◌, ap}
-use Rattle.gv_chunks.proofs.RaisedLemmas.{one_piece}
+use Rattle.gv_chunks.proofs.ShiftLemmas.{one_piece}
 use Rattle.gv_chunks.proofs.replace.append.Goals as goal
 
 pub returns-in-len1-clause-items : goal.returns-in-len1-clause-items

@@ -1,5 +1,5 @@
 use Rattle.std.proofs.Common.{arith}
-use Rattle.gv_chunks.proofs.RaisedLemmas.{one_written, two_written}
+use Rattle.gv_chunks.proofs.ShiftLemmas.{one_written, two_written}
 use Rattle.gv_chunks.proofs.replace.overwrite.Goals as goal
 
 pub returns-in-len1-clause-items : goal.returns-in-len1-clause-items

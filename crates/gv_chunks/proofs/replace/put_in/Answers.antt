@@ -1,6 +1,6 @@
 use Rattle.std.proofs.Common.{◌≡◌, ◌-◌, ◌≤◌, ◌++◌, ◌∙◌, length, take, drop, arith}
 use Rattle.std.proofs.lemmas.List.{length-append, length-drop, take_all}
-use Rattle.gv_chunks.proofs.RaisedLemmas.{written_from, raised_then_filled}
+use Rattle.gv_chunks.proofs.ShiftLemmas.{written_from, raised_then_filled}
 use Rattle.gv_chunks.proofs.replace.put_in.Goals as goal
 
 pub returns-clause-items : goal.returns-clause-items

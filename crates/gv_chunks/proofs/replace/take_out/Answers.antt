@@ -1,6 +1,6 @@
 use Rattle.std.proofs.Common.{◌≡◌, ◌-◌, ◌≤◌, ◌∙◌, length, take, drop, arith}
 use Rattle.std.proofs.lemmas.List.{length-drop, take_all}
-use Rattle.gv_chunks.proofs.RaisedLemmas.{written_from, lowered_then_cut}
+use Rattle.gv_chunks.proofs.ShiftLemmas.{written_from, lowered_then_cut}
 use Rattle.gv_chunks.proofs.replace.take_out.Goals as goal
 
 pub returns-clause-items : goal.returns-clause-items

@@ -2,14 +2,14 @@ use Rattle.std.proofs.Common.{◌≡◌, ℕ, ◌+◌, List, reverse, sym, ◌�
 use Rattle.gv_types.specs.Operation.{in_pages}
 use Rattle.gv_types.specs.declared.operation.PageOp.{PageOp}
 use Rattle.gv_journal.specs.Applying.{after_op, after_all, does}
-use Rattle.gv_journal.specs.Work.{HasRoom, IsTurnRefused}
-use Rattle.gv_journal.proofs.Named.{does_itself, named_refused}
-use Rattle.gv_journal.proofs.Passing.{if_err, on_ok}
+use Rattle.gv_journal.specs.Work.{HasRoom, IsOpRefused}
+use Rattle.gv_journal.proofs.RangedOps.{does_itself, named_refused}
+use Rattle.gv_journal.proofs.FaultsPassedOn.{if_err, on_ok}
 use Rattle.gv_journal.proofs.applying.apply_named.Goals as goal
 
 pub returns-clause-err : goal.returns-clause-err
 returns-clause-err c =
-    if_err c.apply_ranged.result (IsTurnRefused c.args.space.now c.args.op.now)
+    if_err c.apply_ranged.result (IsOpRefused c.args.space.now c.args.op.now)
     (λ fault is. named_refused c.args.space.now c.args.op.now c.apply_ranged.result fault c.requires.ranged is c.apply_ranged.ensures.fault)
 
 pub returns-clause-state : goal.returns-clause-state
@@ -25,7 +25,7 @@ returns-clause-state c =
 pub returns-clause-room : goal.returns-clause-room
 returns-clause-room c =
     on_ok c.apply_ranged.result
-    ((left : ℕ) → HasRoom (1 + left) c.args.work.now → HasRoom left c.apply_ranged.new.work)
-    (HasRoom c.args.left c.apply_ranged.new.work)
-    (λ room. room c.args.left c.requires.room)
+    ((remaining : ℕ) → HasRoom (1 + remaining) c.args.work.now → HasRoom remaining c.apply_ranged.new.work)
+    (HasRoom c.args.remaining c.apply_ranged.new.work)
+    (λ room. room c.args.remaining c.requires.room)
     c.apply_ranged.ensures.room

@@ -4,7 +4,7 @@ use Rattle.gv_ranges.specs.Edit.{edited}
 use Rattle.gv_space.specs.Refusal.{limit_fault}
 use Rattle.gv_journal.proofs.Lists.{last_first}
 use Rattle.gv_journal.proofs.Changing.{AreApplied-more, AreApplied-room, state_after}
-use Rattle.gv_journal.proofs.Passing.{passed_on}
+use Rattle.gv_journal.proofs.FaultsPassedOn.{passed_on}
 use Rattle.gv_journal.proofs.applying.apply_pages.Goals as goal
 
 pub returns-in-Ok-clause-continues : goal.returns-in-Ok-clause-continues

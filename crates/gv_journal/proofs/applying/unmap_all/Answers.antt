@@ -39,12 +39,12 @@ loop-range-preserved c =
     let items = c.deref-range-items.result.now in
     let r = c.range-item.result in
     let below = c.loop-range-test.true in
-    let left : length items - i + c.args.left ≡ 1 + (length items - (i + 1) + c.args.left) = omega arith in
+    let remaining : length items - i + c.args.remaining ≡ 1 + (length items - (i + 1) + c.args.remaining) = omega arith in
     record {
       continues = λ origin was. c.in-Ok-apply_pages.ensures.continues origin (c.loop-range.invariant.continues origin was);
       ops = ops_more c.args.work.now.ops.items c.loop-range.work.ops.items c.apply_pages.new.work.ops.items items i r below c.range-item.is c.loop-range.invariant.ops c.in-Ok-apply_pages.ensures.ops;
       state = state_more c.args.space.now c.loop-range.space c.apply_pages.new.space items i r below c.range-item.is c.loop-range.invariant.state c.in-Ok-apply_pages.ensures.state;
       grown = grows_unmapped c.args.space.now c.loop-range.space c.apply_pages.new.space items i r below c.range-item.is c.loop-range.invariant.state c.loop-range.invariant.grown c.apply_pages.ensures.grown;
       limits = limits_more c.args.space.now c.loop-range.space c.apply_pages.new.space items i r c.apply_pages.result c.in-Ok-apply_pages.field-0 below c.range-item.is c.in-Ok-apply_pages.is c.apply_pages.ensures.fault c.in-Ok-apply_pages.ensures.state c.loop-range.invariant.limits;
-      room = c.in-Ok-apply_pages.ensures.room (length items - (i + 1) + c.args.left) (subst (λ (n : ℕ). HasRoom n c.loop-range.work) left c.loop-range.invariant.room);
+      room = c.in-Ok-apply_pages.ensures.room (length items - (i + 1) + c.args.remaining) (subst (λ (n : ℕ). HasRoom n c.loop-range.work) remaining c.loop-range.invariant.room);
     }

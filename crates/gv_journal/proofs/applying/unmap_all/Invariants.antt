@@ -12,5 +12,5 @@ invariant-loop-range l = record {
   state : l.space ≡ record (after_all (reverse (map Unmap (take l.range-index l.range-items))) l.fn.space) { room = l.space.room };
   grown : GrowsFor (map Unmap l.range-items) l.fn.space l.space;
   limits : limits_fault l.fn.space (map Unmap l.range-items) ≡ limits_fault l.space (map Unmap (drop l.range-index l.range-items));
-  room : HasRoom (length l.range-items - l.range-index + l.left) l.work;
+  room : HasRoom (length l.range-items - l.range-index + l.remaining) l.work;
 }

@@ -1,5 +1,5 @@
 use Rattle.std.proofs.Common.{◌≡◌, ◌-◌, true, take, drop, sym, inl, inr, rules}
-use Rattle.gv_journal.proofs.Beside.{reaches_between}
+use Rattle.gv_journal.proofs.ColumnsMatchItems.{reaches_between}
 use Rattle.gv_journal.proofs.Blocks.{none_met, none_reached}
 use Rattle.gv_journal.proofs.touching.first_reached.Goals as goal
 

@@ -1,5 +1,5 @@
 use Rattle.std.proofs.Common.{◌≡◌, ℕ, ◌+◌, suc, drop, sym, ap, ◌∙◌, arith}
-use Rattle.gv_journal.specs.Saying.{first_taken}
+use Rattle.gv_journal.specs.Covering.{first_taken}
 use Rattle.gv_journal.proofs.Covering.{taken_next}
 use Rattle.gv_journal.proofs.touching.first_taken.Goals as goal
 

@@ -1,5 +1,5 @@
 use Rattle.std.proofs.Common.{◌≡◌, drop}
-use Rattle.gv_journal.specs.Saying.{first_taken}
+use Rattle.gv_journal.specs.Covering.{first_taken}
 use Rattle.gv_journal.proofs.touching.first_taken.Given as goal
 
 abbrev pub invariant-loop-index : goal.invariant-loop-index

@@ -2,11 +2,11 @@ use Rattle.std.proofs.Common.{◌≡◌, ℕ, suc, ◌+◌, ◌<◌, List, lengt
 use Rattle.clap.specs.Simple.{App, with_subcommand}
 use Rattle.clap.specs.Words.{app_of}
 use Rattle.gv_program.specs.Rows.{line_of, with_lines}
-use Rattle.gv_program.specs.declared.commands.Line.{Line}
+use Rattle.gv_program.specs.declared.commands.Subcommand.{Subcommand}
 use Rattle.gv_program.proofs.commands.with_lines.Goals as goal
 
 -- a line is added, and is no longer among those that are left
-one_line : (old new : App) (lines : List Line) (i : ℕ) (d : Line) → i < length lines
+one_line : (old new : App) (lines : List Subcommand) (i : ℕ) (d : Subcommand) → i < length lines
     → new ≡ with_subcommand old (line_of (get_or lines i d)).top
     → with_lines new (drop (i + 1) lines) ≡ with_lines old (drop i lines)
 one_line old new lines i d less is =

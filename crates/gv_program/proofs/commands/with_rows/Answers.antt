@@ -3,7 +3,7 @@ use Rattle.clap.specs.Simple.{App, with_rule}
 use Rattle.clap.specs.Words.{app_of}
 use Rattle.clap.specs.declared.builder.command.Command.TheViews.{out-Command}
 use Rattle.gv_program.specs.Rows.{rule_of_row, with_rows}
-use Rattle.gv_program.specs.declared.args.Row.{Row}
+use Rattle.gv_program.specs.declared.args.Argument.{Argument}
 use Rattle.gv_program.proofs.commands.with_rows.Goals as goal
 
 or_false : (b : Bool) → (b || false) ≡ b
@@ -11,7 +11,7 @@ or_false true = refl
 or_false false = refl
 
 -- a row is added, and is no longer among those that are left
-one_row : (old new : App) (rows : List Row) (i : ℕ) (d : Row) → i < length rows
+one_row : (old new : App) (rows : List Argument) (i : ℕ) (d : Argument) → i < length rows
     → new ≡ with_rule old (rule_of_row (get_or rows i d))
     → with_rows new (drop (i + 1) rows) ≡ with_rows old (drop i rows)
 one_row old new rows i d less is =

@@ -1,7 +1,7 @@
 use Rattle.std.proofs.Common.{rules, ◌≡◌, ◌∙◌, ◌+◌, ℕ, length, vec_len, sym, refl, ap, arith}
 use Rattle.gv_sync.specs.Seats.{SeatState, timeline_count, mark_of, split_from}
 use Rattle.gv_sync.proofs.LookLemmas.{split_raised}
-use Rattle.gv_queues.specs.Sharing.{after_splits, seat_of, split_behind}
+use Rattle.gv_queues.specs.SeatSplits.{after_splits, seat_of, split_behind}
 use Rattle.gv_queues.specs.Submitting.{IsOpened, SubmitterState}
 use Rattle.gv_queues.specs.Taking.{TakerState}
 use Rattle.gv_queues.specs.Working.{WorkerState, no_worker}

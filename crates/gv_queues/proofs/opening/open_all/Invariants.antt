@@ -3,7 +3,7 @@ use Rattle.gv_sync.specs.Seats.{IsSeatOf, timeline_count}
 use Rattle.gv_queues.specs.Ending.{AreInOrder}
 use Rattle.gv_queues.specs.Submitting.{AreOpened}
 use Rattle.gv_queues.specs.Working.{WorkerState}
-use Rattle.gv_queues.specs.Sharing.{HaveSplits}
+use Rattle.gv_queues.specs.SeatSplits.{HaveSplits}
 use Rattle.gv_queues.proofs.Channels.{of_submitters, of_workers}
 use Rattle.gv_queues.proofs.opening.open_all.Given as goal
 

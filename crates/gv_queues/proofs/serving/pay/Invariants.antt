@@ -1,6 +1,6 @@
 use Rattle.std.proofs.Common.{take}
 use Rattle.gv_sync.specs.Seats.{IsSeatOf}
-use Rattle.gv_sync.specs.Turns.{HasRaised}
+use Rattle.gv_sync.specs.SeatSteps.{HasRaised}
 use Rattle.gv_queues.proofs.serving.pay.Given as goal
 
 abbrev pub invariant-loop-signal : goal.invariant-loop-signal

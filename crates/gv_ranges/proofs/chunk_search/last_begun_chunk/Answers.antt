@@ -1,5 +1,5 @@
 use Rattle.std.proofs.Common.{◌+◌, arith}
-use Rattle.gv_ranges.proofs.Firsts.{first_within, chunks_begun, chunks_not_begun}
+use Rattle.gv_ranges.proofs.ChunkFirstPages.{first_within, chunks_begun, chunks_not_begun}
 use Rattle.gv_ranges.proofs.chunk_search.last_begun_chunk.Goals as goal
 
 pub bounds-firsts-last : goal.bounds-firsts-last

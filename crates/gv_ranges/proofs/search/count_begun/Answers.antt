@@ -1,6 +1,6 @@
 use Rattle.std.proofs.Common.{◌≤◌, arith, get_or}
 use Rattle.std.proofs.lemmas.List.{get_or_default}
-use Rattle.gv_ranges.proofs.Indices.{not_begun-from}
+use Rattle.gv_ranges.proofs.SearchSteps.{not_begun-from}
 use Rattle.gv_ranges.proofs.search.count_begun.Goals as goal
 
 pub returns-else-first-page-clause-not_begun : goal.returns-else-first-page-clause-not_begun

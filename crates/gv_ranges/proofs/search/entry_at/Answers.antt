@@ -3,9 +3,9 @@ use Rattle.std.proofs.lemmas.Bool.{eqb-true}
 use Rattle.std.proofs.lemmas.List.{get_or_default}
 use Rattle.gv_types.specs.PageRange.{end_of}
 use Rattle.gv_types.specs.declared.mapping.Mapping.{Mapping}
-use Rattle.gv_ranges.proofs.PartLemmas.{All-take_at}
+use Rattle.gv_ranges.proofs.TakeDropLemmas.{All-take_at}
 use Rattle.gv_ranges.proofs.LookupLemmas.{at_past, at_found, at_gap}
-use Rattle.gv_ranges.proofs.Indices.{at-nothing, at-empty}
+use Rattle.gv_ranges.proofs.SearchSteps.{at-nothing, at-empty}
 use Rattle.gv_ranges.proofs.search.entry_at.Goals as goal
 use Rattle.gv_ranges.proofs.search.entry_at.Goals.{then-page-ge-SPACE_PAGES-via-then-page-ge-SPACE_PAGES, then-page-ge-SPACE_PAGES-via-else-page-ge-SPACE_PAGES+then-is_empty, then-page-first-via-then-page-first, then-page-first-via-else-page-first+then-end-page}
 

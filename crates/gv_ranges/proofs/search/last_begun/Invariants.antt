@@ -3,13 +3,13 @@ use Rattle.std.specs.List.{All}
 use Rattle.gv_ranges.specs.List.{AreEnded}
 use Rattle.gv_ranges.proofs.search.last_begun.Given as goal
 
-abbrev pub invariant-loop-left : goal.invariant-loop-left
-invariant-loop-left l = record {
-  some : 0 < l.left;
-  within : l.index + l.left ≤ length l.mappings;
+abbrev pub invariant-loop-remaining : goal.invariant-loop-remaining
+invariant-loop-remaining l = record {
+  some : 0 < l.remaining;
+  within : l.index + l.remaining ≤ length l.mappings;
   ended : AreEnded l.mappings l.page l.index;
-  later : All (λ m. l.page < m.range.first) (drop (l.index + l.left) l.mappings);
+  later : All (λ m. l.page < m.range.first) (drop (l.index + l.remaining) l.mappings);
 }
 
-abbrev pub decreases-loop-left : goal.decreases-loop-left
-decreases-loop-left l = l.left
+abbrev pub decreases-loop-remaining : goal.decreases-loop-remaining
+decreases-loop-remaining l = l.remaining

@@ -1,5 +1,5 @@
 use Rattle.std.proofs.Common.{refl}
-use Rattle.gv_ranges.proofs.Indices.{stepped}
+use Rattle.gv_ranges.proofs.SearchSteps.{stepped}
 use Rattle.gv_ranges.proofs.search.step_past.Goals as goal
 
 pub returns : goal.returns

@@ -1,6 +1,6 @@
 use Rattle.std.proofs.Common.{refl}
 use Rattle.gv_session.proofs.LinesLemmas.{wrote_plain}
-use Rattle.gv_serve.specs.Added.{Asks}
+use Rattle.gv_serve.specs.DialogueLine.{Asks}
 use Rattle.gv_serve.proofs.asking.say.Goals as goal
 
 pub returns-clause-done : goal.returns-clause-done

@@ -1,6 +1,6 @@
 use Rattle.std.proofs.Common.{◌≡◌, ◌∷◌, [], ◌∙◌, refl, codes, decimal}
 use Rattle.std.proofs.KnownBytes.{Appends-trans}
-use Rattle.gv_session.specs.Reply.{reply}
+use Rattle.gv_session.specs.Texts.{reply}
 use Rattle.gv_session.proofs.AnswerLemmas.{then_ok}
 use Rattle.gv_serve.proofs.bad.write_bad.Goals as goal
 

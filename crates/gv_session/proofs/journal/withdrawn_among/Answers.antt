@@ -3,7 +3,7 @@ use Rattle.std.specs.List.{list_any}
 use Rattle.std.proofs.lemmas.List.{length-replicate}
 use Rattle.gv_journal.specs.Items.{names}
 use Rattle.gv_journal.specs.declared.item.Item.{Item}
-use Rattle.gv_session.proofs.Journals.{any_more, unmarked, take_all}
+use Rattle.gv_session.proofs.JournalLines.{any_more, unmarked, take_all}
 use Rattle.gv_session.proofs.journal.withdrawn_among.Goals as goal
 
 pub loop-item-init : goal.loop-item-init

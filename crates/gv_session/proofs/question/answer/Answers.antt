@@ -1,7 +1,7 @@
 use Rattle.std.proofs.Common.{sym, subst}
 use Rattle.std.specs.List.{All}
 use Rattle.gv_session.specs.State.{HasBytesThatFit}
-use Rattle.gv_session.proofs.Held.{held_list}
+use Rattle.gv_session.proofs.InsideBuffer.{held_list}
 use Rattle.gv_session.proofs.question.answer.Goals as goal
 
 pub write_mappings-requires : goal.write_mappings-requires

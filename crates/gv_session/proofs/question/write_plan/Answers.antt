@@ -6,15 +6,15 @@ use Rattle.gv_space.specs.State.{SpaceState, IsSpace}
 use Rattle.gv_space.specs.Refusal.{operation_fault}
 use Rattle.gv_vm.proofs.SpaceLemmas.{with_its_room}
 use Rattle.gv_session.specs.State.{names_alone}
-use Rattle.gv_session.specs.Said.{plan_reply}
+use Rattle.gv_session.specs.ReplyTexts.{plan_reply}
 use Rattle.gv_session.proofs.AnswerLemmas.{none_from_ok, fault_but_memory}
-use Rattle.gv_session.proofs.Held.{held_plan}
+use Rattle.gv_session.proofs.InsideBuffer.{held_plan}
 use Rattle.gv_session.proofs.question.write_plan.Goals as goal
 
 pub write_steps-requires : goal.write_steps-requires
 write_steps-requires c =
     held_plan c.space.result.now (in_pages c.args.op.now) c.deref.result.now (with_its_room c.space.result.now (subst IsSpace c.space.ensures.value c.space.ensures.holds.buffers_counted.used))
-    c.in-Ok.ensures.placed (c.deref.ensures.value ∙ c.in-Ok.ensures.steps)
+    c.in-Ok.ensures.valid (c.deref.ensures.value ∙ c.in-Ok.ensures.steps)
 
 pub returns-in_ok-write_steps-in-Ok : goal.returns-in_ok-write_steps-in-Ok
 returns-in_ok-write_steps-in-Ok c =

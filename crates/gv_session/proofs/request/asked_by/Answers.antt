@@ -1,7 +1,7 @@
 use Rattle.std.proofs.Common.{◌≡◌, true, rules}
 use Rattle.gv_lines.specs.Clause.{waits_of, signals_of}
-use Rattle.gv_session.proofs.Asks.{declared_first, declared_both, asked_all}
-use Rattle.gv_session.proofs.Within.{read_below}
+use Rattle.gv_session.proofs.ClauseRequests.{declared_first, declared_both, asked_all}
+use Rattle.gv_session.proofs.DeclaredPoints.{read_below}
 use Rattle.gv_session.proofs.request.asked_by.Goals as goal
 
 pub loop-clause-preserved-in-Ok : goal.loop-clause-preserved-in-Ok
@@ -23,5 +23,5 @@ returns-clause-signals c = let memory : c.loop-clause.has_memory ≡ true = sear
 pub returns-clause-fits : goal.returns-clause-fits
 returns-clause-fits c =
     let memory : c.loop-clause.has_memory ≡ true = search rules in
-    let all = asked_all c.args.names.now.entries c.args.timelines.now.names c.args.clauses.now c.loop-clause.left c.loop-clause.asked (c.loop-clause.invariant.asked memory) (search rules) in
+    let all = asked_all c.args.names.now.entries c.args.timelines.now.names c.args.clauses.now c.loop-clause.remaining c.loop-clause.asked (c.loop-clause.invariant.asked memory) (search rules) in
     (read_below c.args.timelines.now.names (waits_of c.args.clauses.now) _ all.1, read_below c.args.timelines.now.names (signals_of c.args.clauses.now) _ all.2)

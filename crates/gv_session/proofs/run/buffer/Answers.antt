@@ -1,7 +1,7 @@
 use Rattle.std.proofs.Common.{◌≡◌, ◌∙◌, sym, ap, refl, None, is_some, false, rules, inl, inr}
 use Rattle.gv_lines.specs.declared.line.Line.TheVariants as line
 use Rattle.gv_session.specs.State.{SessionState, Buffers, names_alone, buffer_named}
-use Rattle.gv_session.specs.Said.{said}
+use Rattle.gv_session.specs.ReplyTexts.{said}
 use Rattle.gv_session.specs.Line.{Runs}
 use Rattle.gv_vm.specs.declared.event.Event.TheVariants.{Create}
 use Rattle.gv_session.proofs.AnswerLemmas.{none_of}
@@ -28,13 +28,13 @@ returns-clause-done c =
       state = ran.state;
     })
 
-pub returns-in_err-reply-clause-left : goal.returns-in_err-reply-clause-left
-returns-in_err-reply-clause-left c =
+pub returns-in_err-reply-clause-stopped : goal.returns-in_err-reply-clause-stopped
+returns-in_err-reply-clause-stopped c =
     let p = err_from_is_err_and c.from_residual.result c.from_residual.ensures.1 in
     rw (p.1, p.2) (inl (inr (inl c.in_err-reply.ensures.err)))
 
-pub returns-in_err-write_said-clause-left : goal.returns-in_err-write_said-clause-left
-returns-in_err-write_said-clause-left c =
+pub returns-in_err-write_said-clause-stopped : goal.returns-in_err-write_said-clause-stopped
+returns-in_err-write_said-clause-stopped c =
     let p = err_from_is_err_and c.from_residual-in_err-write_said.result c.from_residual-in_err-write_said.ensures.1 in
     let s : SessionState = c.args.session.now in
     let t : SessionState = c.make_buffer.new.self in

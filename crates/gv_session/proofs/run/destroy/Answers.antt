@@ -7,10 +7,10 @@ use Rattle.gv_session.proofs.AnswerLemmas.{of_found}
 use Rattle.gv_session.proofs.StoppedLemmas.{then_on_err, leaves_any, leaves_lost, loses_as}
 use Rattle.gv_session.proofs.run.destroy.Goals as goal
 
-pub returns-in_err-id-clause-left : goal.returns-in_err-id-clause-left
-returns-in_err-id-clause-left c = leaves_any (line.Destroy c.args.name.now) _ _ c.from_residual.result refl
+pub returns-in_err-id-clause-stopped : goal.returns-in_err-id-clause-stopped
+returns-in_err-id-clause-stopped c = leaves_any (line.Destroy c.args.name.now) _ _ c.from_residual.result refl
 
-pub returns-clause-left : goal.returns-clause-left
-returns-clause-left c =
-    leaves_lost (line.Destroy c.args.name.now) _ _ c.once.result c.once.ensures.memory (then_on_err c.once.result _ _ (
-    loses_as (DoesOnce (Destroy c.in_ok-id.id)) (Runs (line.Destroy c.args.name.now)) _ _ (λ w runs. of_found (buffer_named c.args.session.now.buffers c.args.name.now) c.in_ok-id.id _ (search rules) runs)) c.once.ensures.left)
+pub returns-clause-stopped : goal.returns-clause-stopped
+returns-clause-stopped c =
+    leaves_lost (line.Destroy c.args.name.now) _ _ c.run_event.result c.run_event.ensures.memory (then_on_err c.run_event.result _ _ (
+    loses_as (DoesOnce (Destroy c.in_ok-id.id)) (Runs (line.Destroy c.args.name.now)) _ _ (λ w runs. of_found (buffer_named c.args.session.now.buffers c.args.name.now) c.in_ok-id.id _ (search rules) runs)) c.run_event.ensures.stopped)

@@ -4,8 +4,8 @@ use Rattle.gv_types.specs.declared.fault.Fault.TheVariants.{TooManyAccesses}
 use Rattle.gv_vm.specs.Jobs.{most_accesses}
 use Rattle.gv_vm.specs.declared.event.Event.TheVariants.{JobBegin}
 use Rattle.gv_lines.specs.declared.line.Line.TheVariants as line
-use Rattle.gv_session.specs.Asking.{access_named}
-use Rattle.gv_session.specs.Reply.{refused_reply}
+use Rattle.gv_session.specs.Requests.{access_named}
+use Rattle.gv_session.specs.Texts.{refused_reply}
 use Rattle.gv_session.specs.Line.{Runs, DoesOnce}
 use Rattle.gv_session.proofs.AnswerLemmas.{then_ok}
 use Rattle.gv_session.proofs.LinesLemmas.{wrote_plain, wrote_as, too_many}
@@ -22,17 +22,17 @@ returns-then-are_too_many-clause-done c =
 
 pub returns-clause-done : goal.returns-clause-done
 returns-clause-done c =
-    then_ok c.once.result _ _ (λ wrote.
-    wrote_as (DoesOnce (JobBegin c.in_ok-accesses.accesses)) (Runs (line.Job c.args.accesses)) c.args.session.now c.once.new.session c.args.out.now c.once.new.out
-    (λ w runs. inl (record { list = c.in_ok-accesses.accesses; list_is = c.in_ok-accesses.ensures; does = runs })) wrote) c.once.ensures.done
+    then_ok c.run_event.result _ _ (λ wrote.
+    wrote_as (DoesOnce (JobBegin c.in_ok-accesses.accesses)) (Runs (line.Job c.args.accesses)) c.args.session.now c.run_event.new.session c.args.out.now c.run_event.new.out
+    (λ w runs. inl (record { list = c.in_ok-accesses.accesses; list_is = c.in_ok-accesses.ensures; does = runs })) wrote) c.run_event.ensures.done
 
-pub returns-in_err-write_refused-clause-left : goal.returns-in_err-write_refused-clause-left
-returns-in_err-write_refused-clause-left c = on_err c.from_residual.result _ (inr (inl c.begin.ensures))
+pub returns-in_err-write_refused-clause-stopped : goal.returns-in_err-write_refused-clause-stopped
+returns-in_err-write_refused-clause-stopped c = on_err c.from_residual.result _ (inr (inl c.begin.ensures))
 
-pub returns-in_err-accesses-clause-left : goal.returns-in_err-accesses-clause-left
-returns-in_err-accesses-clause-left c = on_err c.from_residual-in_err-accesses.result _ (inl refl)
+pub returns-in_err-accesses-clause-stopped : goal.returns-in_err-accesses-clause-stopped
+returns-in_err-accesses-clause-stopped c = on_err c.from_residual-in_err-accesses.result _ (inl refl)
 
-pub returns-clause-left : goal.returns-clause-left
-returns-clause-left c =
-    then_on_err c.once.result _ _ (loses_as (DoesOnce (JobBegin c.in_ok-accesses.accesses)) (Runs (line.Job c.args.accesses)) c.args.session.now c.once.new.session
-    (λ w runs. inl (record { list = c.in_ok-accesses.accesses; list_is = c.in_ok-accesses.ensures; does = runs }))) c.once.ensures.left
+pub returns-clause-stopped : goal.returns-clause-stopped
+returns-clause-stopped c =
+    then_on_err c.run_event.result _ _ (loses_as (DoesOnce (JobBegin c.in_ok-accesses.accesses)) (Runs (line.Job c.args.accesses)) c.args.session.now c.run_event.new.session
+    (λ w runs. inl (record { list = c.in_ok-accesses.accesses; list_is = c.in_ok-accesses.ensures; does = runs }))) c.run_event.ensures.stopped

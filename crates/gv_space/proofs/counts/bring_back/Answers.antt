@@ -1,39 +1,39 @@
-use Rattle.gv_space.proofs.PlaceTurns.{came_turn, came_none, came_end, one_more_at, has_row}
+use Rattle.gv_space.proofs.FirstPageLoops.{came_turn, came_none, came_end, one_more_at, has_row}
 use Rattle.std.proofs.Common.{refl, ◌+◌, ◌<◌, ◌≤◌, arith, sym, ◌∙◌}
 use Rattle.gv_buffers.specs.Buffers.{most_counted}
 use Rattle.gv_types.specs.declared.mapping.Backing.TheVariants.{Zero}
 use Rattle.gv_space.specs.Counts.{moved_in}
-use Rattle.gv_space.proofs.Counting.{moved_in_counting, by_count_none, can_count, count_turn, count_end}
+use Rattle.gv_space.proofs.CountsOneByOne.{moved_in_counting, by_count_none, can_count, count_turn, count_end}
 use Rattle.gv_space.proofs.counts.bring_back.Goals as goal
 use Rattle.gv_space.proofs.counts.bring_back.Goals.{in-Buffer, in_default}
 
 pub loop-mapping-init : goal.loop-mapping-init
 loop-mapping-init c = record {
   counts = sym (by_count_none moved_in c.args.buffers.now moved_in_counting);
-  places = λ before behind laid are. are;
+  first_pages = λ before behind laid are. are;
   few = λ index. (let less = c.requires.few index in omega (arith, less));
   rows = refl;
 }
 
-pub come-requires-clause-row : goal.come-requires-clause-row
-come-requires-clause-row c =
+pub add_page-requires-clause-row : goal.add_page-requires-clause-row
+add_page-requires-clause-row c =
     let row = has_row c.args.mappings.now c.loop-mapping.mapping-index c.mapping-item.result c.in-Buffer.id c.in-Buffer.page _ c.loop-mapping-test.true c.mapping-item.is
     (sym c.backing.ensures ∙ c.in-Buffer.is) c.requires.rows in
     omega (arith, row, c.loop-mapping.invariant.rows)
 
-pub come-requires-clause-few : goal.come-requires-clause-few
-come-requires-clause-few c =
+pub add_page-requires-clause-few : goal.add_page-requires-clause-few
+add_page-requires-clause-few c =
     let less = c.loop-mapping.invariant.few c.in-Buffer.id.index in
     omega (arith, less, c.loop-mapping-test.true)
 
-pub bring_back-requires-clause-kept : goal.bring_back-requires-clause-kept
-bring_back-requires-clause-kept c =
+pub count_brought_back-requires-clause-kept : goal.count_brought_back-requires-clause-kept
+count_brought_back-requires-clause-kept c =
     can_count moved_in (λ b. b.kept) (λ b n. n ≤ b.kept) (λ n. 0 < n) moved_in_counting (λ b n k less fits. omega arith)
     c.args.buffers.now c.loop-mapping.buffers c.args.mappings.now c.loop-mapping.mapping-index c.mapping-item.result c.in-Buffer.id c.in-Buffer.page
     c.loop-mapping-test.true c.mapping-item.is (sym c.backing.ensures ∙ c.in-Buffer.is) c.requires.live c.requires.kept c.loop-mapping.invariant.counts
 
-pub bring_back-requires-clause-room : goal.bring_back-requires-clause-room
-bring_back-requires-clause-room c =
+pub count_brought_back-requires-clause-room : goal.count_brought_back-requires-clause-room
+count_brought_back-requires-clause-room c =
     can_count moved_in (λ b. b.uses) (λ b n. b.uses + n ≤ most_counted) (λ n. n < most_counted) moved_in_counting (λ b n k less fits. omega arith)
     c.args.buffers.now c.loop-mapping.buffers c.args.mappings.now c.loop-mapping.mapping-index c.mapping-item.result c.in-Buffer.id c.in-Buffer.page
     c.loop-mapping-test.true c.mapping-item.is (sym c.backing.ensures ∙ c.in-Buffer.is) c.requires.live c.requires.room c.loop-mapping.invariant.counts
@@ -46,25 +46,25 @@ loop-mapping-preserved c =
     elim c.match-backing.branch [
       | in-Buffer w ↦
           let of = sym c.backing.ensures ∙ w.in-Buffer.is in
-          rw w.places-is record {
-            counts = turn _ moved_in_counting c.loop-mapping-test.true c.mapping-item.is of inv.counts (w.buffers-is ∙ w.bring_back.ensures);
-            places = λ before behind laid are.
+          rw w.first_pages-is record {
+            counts = turn _ moved_in_counting c.loop-mapping-test.true c.mapping-item.is of inv.counts (w.buffers-is ∙ w.count_brought_back.ensures);
+            first_pages = λ before behind laid are.
                 came_turn before behind ms c.loop-mapping.mapping-index c.mapping-item.result c.loop-mapping-test.true c.mapping-item.is
-                w.in-Buffer.id w.in-Buffer.page c.loop-mapping.places w.come.new.self of laid (rw w.first.ensures.value at w.come.ensures.here) w.come.ensures.others
-                (inv.places before behind laid are);
+                w.in-Buffer.id w.in-Buffer.page c.loop-mapping.first_pages w.add_page.new.self of laid (rw w.first.ensures.value at w.add_page.ensures.here) w.add_page.ensures.others
+                (inv.first_pages before behind laid are);
             few = λ index.
-                (let less = one_more_at w.in-Buffer.id.index w.first.result c.loop-mapping.places w.come.new.self w.come.ensures.here w.come.ensures.others index in
+                (let less = one_more_at w.in-Buffer.id.index w.first.result c.loop-mapping.first_pages w.add_page.new.self w.add_page.ensures.here w.add_page.ensures.others index in
                 let so_far = inv.few index in
                 omega (arith, less, so_far, c.loop-mapping-test.true));
-            rows = w.come.ensures.length ∙ inv.rows;
+            rows = w.add_page.ensures.length ∙ inv.rows;
           }
       | in_default w ↦
           let of = sym c.backing.ensures ∙ w.in_default.is in
-          rw w.places-is record {
+          rw w.first_pages-is record {
             counts = turn Zero moved_in_counting c.loop-mapping-test.true c.mapping-item.is of inv.counts w.buffers-is;
-            places = λ before behind laid are.
+            first_pages = λ before behind laid are.
                 came_none before behind ms c.loop-mapping.mapping-index c.mapping-item.result c.loop-mapping-test.true c.mapping-item.is
-                c.loop-mapping.places of (inv.places before behind laid are);
+                c.loop-mapping.first_pages of (inv.first_pages before behind laid are);
             few = λ index. (let so_far = inv.few index in omega (arith, so_far));
             rows = inv.rows;
           }
@@ -74,7 +74,7 @@ pub returns-clause-counts : goal.returns-clause-counts
 returns-clause-counts c =
     count_end moved_in c.args.buffers.now c.loop-mapping.buffers c.args.mappings.now c.loop-mapping.mapping-index c.loop-mapping-test.false c.loop-mapping.invariant.counts
 
-pub returns-clause-places : goal.returns-clause-places
-returns-clause-places c = λ before behind laid are.
-    came_end before behind c.args.mappings.now c.loop-mapping.mapping-index c.loop-mapping.places c.loop-mapping-test.false
-    (c.loop-mapping.invariant.places before behind laid are)
+pub returns-clause-first_pages : goal.returns-clause-first_pages
+returns-clause-first_pages c = λ before behind laid are.
+    came_end before behind c.args.mappings.now c.loop-mapping.mapping-index c.loop-mapping.first_pages c.loop-mapping-test.false
+    (c.loop-mapping.invariant.first_pages before behind laid are)

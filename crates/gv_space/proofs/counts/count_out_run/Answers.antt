@@ -1,10 +1,10 @@
-use Rattle.gv_space.proofs.PlaceTurns.{left_turn, left_none, left_end, fewer}
+use Rattle.gv_space.proofs.FirstPageLoops.{left_turn, left_none, left_end, fewer}
 use Rattle.std.proofs.Common.{◌≡◌, ◌+◌, ◌<◌, ◌≤◌, length, ◌++◌, ◌∷◌, [], arith, sym, refl, ◌∙◌}
 use Rattle.std.proofs.lemmas.List.{length-append}
 use Rattle.gv_types.specs.declared.mapping.Backing.TheVariants.{Zero}
 use Rattle.gv_space.specs.Counts.{less_used}
-use Rattle.gv_space.proofs.Counting.{less_used_counting, by_count_none, can_count, count_turn, count_end}
-use Rattle.gv_space.proofs.Walked.{next_is, none_is_left}
+use Rattle.gv_space.proofs.CountsOneByOne.{less_used_counting, by_count_none, can_count, count_turn, count_end}
+use Rattle.gv_space.proofs.ListIteration.{next_is, none_is_left}
 use Rattle.gv_space.proofs.counts.count_out_run.Goals as goal
 
 pub loop-mapping-init : goal.loop-mapping-init
@@ -12,7 +12,7 @@ loop-mapping-init c = record {
   within = omega arith;
   walked = c.into_iter-mapping-iterator.ensures.into_iter_gives;
   counted = sym (by_count_none less_used c.args.buffers.now less_used_counting);
-  places = λ before behind laid are. are;
+  first_pages = λ before behind laid are. are;
   no_more = λ index. omega arith;
   rows = refl;
   can = tt;
@@ -36,15 +36,15 @@ loop-mapping-preserved-in-Buffer c =
       walked = next.behind;
       counted = count_turn less_used c.args.buffers.now c.loop-mapping.buffers c.count_out.new.self c.args.run i c.in-Some.mapping.now
           _ less_used_counting next.within next.is (sym c.backing.ensures ∙ c.in-Buffer.is) c.loop-mapping.invariant.counted c.count_out.ensures;
-      places = λ before behind laid are.
+      first_pages = λ before behind laid are.
           left_turn before behind c.args.run i c.in-Some.mapping.now next.within next.is
-          c.in-Buffer.id c.in-Buffer.page c.loop-mapping.places c.leave.new.self (sym c.backing.ensures ∙ c.in-Buffer.is) laid (rw c.first.ensures.value at c.leave.ensures.here) c.leave.ensures.others
-          (c.loop-mapping.invariant.places before behind laid are);
+          c.in-Buffer.id c.in-Buffer.page c.loop-mapping.first_pages c.remove_page.new.self (sym c.backing.ensures ∙ c.in-Buffer.is) laid (rw c.first.ensures.value at c.remove_page.ensures.here) c.remove_page.ensures.others
+          (c.loop-mapping.invariant.first_pages before behind laid are);
       no_more = λ index.
-          (let less = fewer c.in-Buffer.id.index c.first.result c.loop-mapping.places c.leave.new.self c.leave.ensures.here c.leave.ensures.others index in
+          (let less = fewer c.in-Buffer.id.index c.first.result c.loop-mapping.first_pages c.remove_page.new.self c.remove_page.ensures.here c.remove_page.ensures.others index in
           let so_far = c.loop-mapping.invariant.no_more index in
           omega (arith, less, so_far));
-      rows = c.leave.ensures.length ∙ c.loop-mapping.invariant.rows;
+      rows = c.remove_page.ensures.length ∙ c.loop-mapping.invariant.rows;
       can = tt;
       finite = tt;
     }
@@ -59,9 +59,9 @@ loop-mapping-preserved c =
       walked = next.behind;
       counted = count_turn less_used c.args.buffers.now c.loop-mapping.buffers c.loop-mapping.buffers c.args.run i c.in-Some.mapping.now
           Zero less_used_counting next.within next.is (sym c.backing.ensures ∙ c.in_default.is) c.loop-mapping.invariant.counted refl;
-      places = λ before behind laid are.
+      first_pages = λ before behind laid are.
           left_none before behind c.args.run i c.in-Some.mapping.now next.within next.is
-          c.loop-mapping.places (sym c.backing.ensures ∙ c.in_default.is) (c.loop-mapping.invariant.places before behind laid are);
+          c.loop-mapping.first_pages (sym c.backing.ensures ∙ c.in_default.is) (c.loop-mapping.invariant.first_pages before behind laid are);
       no_more = c.loop-mapping.invariant.no_more;
       rows = c.loop-mapping.invariant.rows;
       can = tt;
@@ -73,8 +73,8 @@ returns-clause-counts c =
     count_end less_used c.args.buffers.now c.loop-mapping.buffers c.args.run (length c.loop-mapping.yielded)
     (none_is_left c.args.run c.loop-mapping.mapping-iterator (length c.loop-mapping.yielded) c.loop-mapping.invariant.walked c.in-None.ensures.steps.0) c.loop-mapping.invariant.counted
 
-pub returns-clause-places : goal.returns-clause-places
-returns-clause-places c = λ before behind laid are.
-    left_end before behind c.args.run (length c.loop-mapping.yielded) c.loop-mapping.places
+pub returns-clause-first_pages : goal.returns-clause-first_pages
+returns-clause-first_pages c = λ before behind laid are.
+    left_end before behind c.args.run (length c.loop-mapping.yielded) c.loop-mapping.first_pages
     (none_is_left c.args.run c.loop-mapping.mapping-iterator (length c.loop-mapping.yielded) c.loop-mapping.invariant.walked c.in-None.ensures.steps.0)
-    (c.loop-mapping.invariant.places before behind laid are)
+    (c.loop-mapping.invariant.first_pages before behind laid are)

@@ -1,4 +1,4 @@
-use Rattle.gv_space.proofs.PlaceStays.{stays_between}
+use Rattle.gv_space.proofs.FirstPageStays.{stays_between}
 use Rattle.std.proofs.Common.{◌≡◌, ◌+◌, ◌-◌, ◌<◌, ◌≤◌, take, get_or, arith, sym, subst, ap, ◌∙◌}
 use Rattle.std.specs.List.{All}
 use Rattle.std.proofs.lemmas.List.{get_or_default}
@@ -8,9 +8,9 @@ use Rattle.gv_buffers.specs.Buffers.{BuffersState, most_counted}
 use Rattle.gv_space.specs.Counts.{by_count, count_of, more_used, more_kept, moved_out}
 use Rattle.gv_space.specs.Live.{IsLiveBacking}
 use Rattle.gv_space.proofs.ByCountLemmas.{moved_out_of_counts, live-by_count, All-by_count}
-use Rattle.gv_space.proofs.Counting.{more_kept_counting, by_count_none, can_count}
+use Rattle.gv_space.proofs.CountsOneByOne.{more_kept_counting, by_count_none, can_count}
 use Rattle.gv_space.proofs.Recounted.{taken_out_first}
-use Rattle.gv_space.proofs.Standing.{rest, first-kept, rest-live, rest-counted, rest-room, pieces-live, pieces-room, first-stays}
+use Rattle.gv_space.proofs.FirstKept.{rest, first-kept, rest-live, rest-counted, rest-room, pieces-live, pieces-room, first-stays}
 use Rattle.gv_space.proofs.counts.move_counts.Goals as goal
 
 pub keep-requires : goal.keep-requires
@@ -71,13 +71,13 @@ returns-clause-counts c =
     c.count_in-2.ensures.counts ∙ ap (by_count more_used c.args.pieces.now) c.take_out-2.ensures.counts
     ∙ taken_out_first c.args.taken.now c.args.pieces.now c.args.buffers.now c.requires.counted
 
-pub returns-in-Some-clause-places : goal.returns-in-Some-clause-places
-returns-in-Some-clause-places c = λ before behind laid laid' are.
-    let left = c.take_out.ensures.places in
-    let came = c.count_in.ensures.places in
-    stays_between before behind c.args.taken.now c.args.pieces.now c.in-Some.id c.args.places.now c.take_out.new.places c.count_in.new.places
-    c.in-Some.ensures.taken c.in-Some.ensures.pieces c.in-Some.ensures.places left came laid laid' are
+pub returns-in-Some-clause-first_pages : goal.returns-in-Some-clause-first_pages
+returns-in-Some-clause-first_pages c = λ before behind laid laid' are.
+    let left = c.take_out.ensures.first_pages in
+    let came = c.count_in.ensures.first_pages in
+    stays_between before behind c.args.taken.now c.args.pieces.now c.in-Some.id c.args.first_pages.now c.take_out.new.first_pages c.count_in.new.first_pages
+    c.in-Some.ensures.taken c.in-Some.ensures.pieces c.in-Some.ensures.first_pages left came laid laid' are
 
-pub returns-clause-places : goal.returns-clause-places
-returns-clause-places c = λ before behind laid laid' are.
-    c.count_in-2.ensures.places before behind laid' (c.take_out-2.ensures.places before behind laid are)
+pub returns-clause-first_pages : goal.returns-clause-first_pages
+returns-clause-first_pages c = λ before behind laid laid' are.
+    c.count_in-2.ensures.first_pages before behind laid' (c.take_out-2.ensures.first_pages before behind laid are)

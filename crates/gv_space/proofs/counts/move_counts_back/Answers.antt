@@ -30,6 +30,6 @@ returns-clause-counts c =
     c.bring_back.ensures.counts ∙ ap (by_count moved_in c.args.taken.now) c.count_out_run.ensures.counts
     ∙ brought_back_last c.args.pieces c.args.taken.now c.args.buffers.now c.requires.counted
 
-pub returns-clause-places : goal.returns-clause-places
-returns-clause-places c = λ before behind laid laid' are.
-    c.bring_back.ensures.places before behind laid' (c.count_out_run.ensures.places before behind laid are)
+pub returns-clause-first_pages : goal.returns-clause-first_pages
+returns-clause-first_pages c = λ before behind laid laid' are.
+    c.bring_back.ensures.first_pages before behind laid' (c.count_out_run.ensures.first_pages before behind laid are)

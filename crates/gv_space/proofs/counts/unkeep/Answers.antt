@@ -1,7 +1,7 @@
 use Rattle.std.proofs.Common.{◌<◌, ◌≤◌, arith, sym, ◌∙◌}
 use Rattle.gv_types.specs.declared.mapping.Backing.TheVariants.{Zero}
 use Rattle.gv_space.specs.Counts.{less_kept}
-use Rattle.gv_space.proofs.Counting.{less_kept_counting, by_count_none, can_count, count_turn, count_end}
+use Rattle.gv_space.proofs.CountsOneByOne.{less_kept_counting, by_count_none, can_count, count_turn, count_end}
 use Rattle.gv_space.proofs.counts.unkeep.Goals as goal
 use Rattle.gv_space.proofs.counts.unkeep.Goals.{in-Buffer, in_default}
 

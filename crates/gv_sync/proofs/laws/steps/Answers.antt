@@ -1,4 +1,4 @@
-use Rattle.gv_sync.proofs.Rises.{begins, loads, raises, splits}
+use Rattle.gv_sync.proofs.StepsKeepRule.{begins, loads, raises, splits}
 use Rattle.gv_sync.proofs.laws.steps.Goals as goal
 
 pub returns-clause-new : goal.returns-clause-new

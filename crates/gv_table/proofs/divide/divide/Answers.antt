@@ -4,7 +4,7 @@ use Rattle.gv_table.specs.Levels.{pages_of}
 use Rattle.gv_table.specs.Shape.{IsShaped}
 use Rattle.gv_table.specs.Tree.{is_table, child, IsTreeOf}
 use Rattle.gv_table.proofs.Slots.{is_table-Empty, child-other}
-use Rattle.gv_table.proofs.Counting.{part-room}
+use Rattle.gv_table.proofs.TableCountUpdates.{part-room}
 use Rattle.gv_table.proofs.Trees.{divided-parts}
 use Rattle.gv_table.proofs.divide.divide.Goals as goal
 
@@ -22,10 +22,10 @@ returns c =
     record {
       divided = record {
         table = ap is_table c.overwrite.ensures ∙ made.table;
-        parts = λ ms first laid told tree k below.
+        parts = λ ms first laid encoded tree k below.
             subst (λ (s : Slot). IsTreeOf ms (c.args.level - 1) (first + k * pages_of (c.args.level - 1)) s) (sym (same k))
             (divided-parts c.entry.result c.args.slot.now (λ k. child c.divided-table.result k) ms c.args.level first (pages_of (c.args.level - 1)) c.entry.ensures other
-            made.empty made.entries laid told c.requires.some refl tree k below);
+            made.empty made.entries laid encoded c.requires.some refl tree k below);
         tables = λ k below. inr (ap is_table (child-other c.args.slot.now k other) ∙ is_table-Empty, ap is_table (same k) ∙ made.leaves k below);
       };
       shaped = subst (λ (s : Slot). IsShaped c.args.level s) (sym c.overwrite.ensures) made.shaped;

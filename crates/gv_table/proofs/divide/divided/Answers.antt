@@ -1,7 +1,7 @@
 use Rattle.std.proofs.Common.{◌≡◌, ◌-◌, ◌*◌, ◌<◌, ◌≤◌, ℕ, IfSome, Option, Some, None, arith, ap, sym, ◌∙◌, subst}
 use Rattle.gv_types.specs.declared.mapping.Entry.{Entry}
 use Rattle.gv_types.specs.Mapping.{entry_advanced, HasSmallPages}
-use Rattle.gv_table.specs.Names.{IsTold}
+use Rattle.gv_table.specs.BufferNames.{IsEncodable}
 use Rattle.gv_table.specs.declared.slot.Slot.{Slot}
 use Rattle.gv_table.specs.Kinds.{of}
 use Rattle.gv_table.specs.Levels.{pages_of}
@@ -12,20 +12,20 @@ use Rattle.gv_table.proofs.Shapes.{shaped-Pages, shaped-Table, shaped-other}
 use Rattle.gv_table.proofs.KindLemmas.{one_of-low}
 use Rattle.gv_table.proofs.divide.divided.Goals as goal
 
--- parts that are told of each slot are told of each child
+-- parts that are encoded of each slot are encoded of each child
 parts-are : (entry : Option Entry) (table : Slot) (p q : ℕ) (part : ℕ → Slot) → p ≡ q → ((k : ℕ) → child table k ≡ part k) →
-    IfSome entry (λ e. HasSmallPages e.backing (512 * p) → IsTold e.backing (512 * p) → (k : ℕ) → k < 512 → part k ≡ leaf (entry_advanced e (k * p))) →
-    IfSome entry (λ e. HasSmallPages e.backing (512 * q) → IsTold e.backing (512 * q) → (k : ℕ) → k < 512 → child table k ≡ leaf (entry_advanced e (k * q)))
+    IfSome entry (λ e. HasSmallPages e.backing (512 * p) → IsEncodable e.backing (512 * p) → (k : ℕ) → k < 512 → part k ≡ leaf (entry_advanced e (k * p))) →
+    IfSome entry (λ e. HasSmallPages e.backing (512 * q) → IsEncodable e.backing (512 * q) → (k : ℕ) → k < 512 → child table k ≡ leaf (entry_advanced e (k * q)))
 parts-are None table p q part same is parts = tt
-parts-are (Some entry) table p q part same is parts = rw (← same) (λ small told k below. is k ∙ parts small told k below)
+parts-are (Some entry) table p q part same is parts = rw (← same) (λ small encoded k below. is k ∙ parts small encoded k below)
 
 pages-are : (entry : Option Entry) (part : ℕ → Slot) →
-    IfSome entry (λ e. HasSmallPages e.backing 512 → IsTold e.backing 512 → (k : ℕ) → k < 512 → part k ≡ leaf (entry_advanced e k)) →
-    IfSome entry (λ e. HasSmallPages e.backing (512 * 1) → IsTold e.backing (512 * 1) → (k : ℕ) → k < 512 → part k ≡ leaf (entry_advanced e (k * 1)))
+    IfSome entry (λ e. HasSmallPages e.backing 512 → IsEncodable e.backing 512 → (k : ℕ) → k < 512 → part k ≡ leaf (entry_advanced e k)) →
+    IfSome entry (λ e. HasSmallPages e.backing (512 * 1) → IsEncodable e.backing (512 * 1) → (k : ℕ) → k < 512 → part k ≡ leaf (entry_advanced e (k * 1)))
 pages-are None part parts = tt
-pages-are (Some entry) part parts = λ small told k below.
+pages-are (Some entry) part parts = λ small encoded k below.
     let one : k * 1 ≡ k = omega arith in
-    parts small told k below ∙ ap (λ (n : ℕ). leaf (entry_advanced entry n)) (sym one)
+    parts small encoded k below ∙ ap (λ (n : ℕ). leaf (entry_advanced entry n)) (sym one)
 
 pub take_pages-requires : goal.take_pages-requires
 take_pages-requires c = λ kind.

@@ -8,6 +8,6 @@ returns-else-not-is_table-clause-divided c =
     let table : is_table c.args.slot.now ≡ true = sym c.is_table.ensures ∙ c.if-not-is_table.false in
     record {
       table = table;
-      parts = λ ms first laid told tree k below. read-parts ms c.args.level first c.args.slot.now c.requires.some tree table k below;
+      parts = λ ms first laid encoded tree k below. read-parts ms c.args.level first c.args.slot.now c.requires.some tree table k below;
       tables = λ k below. inl refl;
     }

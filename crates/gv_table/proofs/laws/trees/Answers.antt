@@ -1,4 +1,4 @@
-use Rattle.gv_table.proofs.LikenessLemmas.{tables-gained}
+use Rattle.gv_table.proofs.SameTreeLemmas.{tables-gained}
 use Rattle.gv_table.proofs.laws.trees.Goals as goal
 
 pub returns : goal.returns

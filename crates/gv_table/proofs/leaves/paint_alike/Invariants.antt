@@ -14,7 +14,7 @@ invariant-loop-index l = record {
   untouched : (k : ℕ) → l.index ≤ k → slice_index_or l.slots k Empty ≡ slice_index_or l.initial.slots k Empty;
   shaped : (k : ℕ) → k < 512 → IsShaped l.level (slice_index_or l.slots k Empty);
   gained : (kind : Kind) → row_gained kind l.excerpt.mappings.now l.level l.first l.slots ≡ row_gained kind l.excerpt.mappings.now l.level l.first l.initial.slots;
-  put : (kind : Kind) → of kind l.left + row_lost kind l.excerpt.mappings.now l.level l.first l.slots ≡ of kind l.initial.left + row_lost kind l.excerpt.mappings.now l.level l.first l.initial.slots;
-  standing : (target : ℕ) →
+  put : (kind : Kind) → of kind l.pruned + row_lost kind l.excerpt.mappings.now l.level l.first l.slots ≡ of kind l.initial.pruned + row_lost kind l.excerpt.mappings.now l.level l.first l.initial.slots;
+  present : (target : ℕ) →
       count_at l.counts target + row_tables_at target l.level l.initial.slots ≡ count_at l.initial.counts target + row_tables_at target l.level l.slots;
 }

@@ -1,7 +1,7 @@
 use Rattle.std.proofs.Common.{arith, ◌≡◌, ◌-◌, ◌+◌, ◌*◌, ◌/◌, ◌≤◌, ℕ, ap, ◌∙◌}
 use Rattle.gv_table.specs.Levels.{pages_of, slot_pages}
 use Rattle.gv_table.proofs.PagesOf.{pages_of-some, pages_of-below, index-within, index-below}
-use Rattle.gv_table.proofs.Spans.{meets-bounds, meets-from}
+use Rattle.gv_table.proofs.RangesMeet.{meets-bounds, meets-from}
 use Rattle.gv_table.proofs.levels.part_around.Goals as goal
 
 pub returns : goal.returns

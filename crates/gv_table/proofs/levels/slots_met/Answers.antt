@@ -2,7 +2,7 @@ use Rattle.std.proofs.Common.{arith, ◌-◌, ◌*◌}
 use Rattle.gv_types.specs.PageRange.{span}
 use Rattle.gv_table.specs.Levels.{pages_of}
 use Rattle.gv_table.proofs.PagesOf.{row-past, index-below, over-rises, pages_of-some}
-use Rattle.gv_table.proofs.Spans.{meets-bounds}
+use Rattle.gv_table.proofs.RangesMeet.{meets-bounds}
 use Rattle.gv_table.proofs.levels.slots_met.Goals as goal
 
 pub returns-clause-beyond : goal.returns-clause-beyond

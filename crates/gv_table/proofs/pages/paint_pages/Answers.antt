@@ -1,11 +1,11 @@
 use Rattle.std.proofs.Common.{arith, ◌≡◌, ◌+◌, ◌*◌, ◌≤◌, ℕ, true, false, slice_index_or, refl, sym, ◌∙◌, subst, inl, inr}
 use Rattle.std.proofs.lemmas.Bool.{cases_lt}
-use Rattle.gv_table.specs.Names.{PageSlot}
+use Rattle.gv_table.specs.BufferNames.{PageSlot}
 use Rattle.gv_table.specs.Levels.{pages_of, slot_pages, first_within}
 use Rattle.gv_table.specs.Tree.{IsTreeOf, slot_of, no_page}
 use Rattle.gv_table.proofs.PagesOf.{pages_of-zero, slots-of-one-page}
-use Rattle.gv_table.proofs.Positions.{ended-later, position-ended}
-use Rattle.gv_table.proofs.Spans.{meets-bounds}
+use Rattle.gv_table.proofs.ListPositions.{ended-later, position-ended}
+use Rattle.gv_table.proofs.RangesMeet.{meets-bounds}
 use Rattle.gv_table.proofs.pages.paint_pages.Goals as goal
 
 pub loop-index-init : goal.loop-index-init

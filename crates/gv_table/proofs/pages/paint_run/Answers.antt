@@ -4,13 +4,13 @@ use Rattle.gv_types.specs.Mapping.{part, entry_advanced, IsMapping}
 use Rattle.gv_types.specs.declared.mapping.Entry.{Entry}
 use Rattle.gv_types.specs.declared.mapping.Mapping.{Mapping}
 use Rattle.gv_ranges.proofs.LookupLemmas.{is_mapping}
-use Rattle.gv_ranges.proofs.PartLemmas.{All-drop_at}
-use Rattle.gv_table.specs.Names.{IsTold}
+use Rattle.gv_ranges.proofs.TakeDropLemmas.{All-drop_at}
+use Rattle.gv_table.specs.BufferNames.{IsEncodable}
 use Rattle.gv_table.specs.Tree.{leaf, slot_of}
 use Rattle.std.proofs.lemmas.List.Elements.{All-get_or}
-use Rattle.gv_table.proofs.Runs.{run-past, run-gap, run-mapping, part-further, part-small, part-told}
+use Rattle.gv_table.proofs.RunOfPages.{run-past, run-gap, run-mapping, part-further, part-small, part-encoded}
 use Rattle.gv_table.proofs.Slots.{slot_of-none}
-use Rattle.gv_table.proofs.Spans.{covers-from}
+use Rattle.gv_table.proofs.RangesMeet.{covers-from}
 use Rattle.gv_table.proofs.Trees.{IsTreeOf-page}
 use Rattle.gv_table.proofs.pages.paint_run.Goals as goal
 
@@ -93,6 +93,6 @@ returns-clause-painted c = λ k up less.
     let n : ℕ = c.min-end-2.result - c.args.run.start in
     let within : c.args.first + c.args.run.start + n ≤ end_of m.range = omega (arith, past') in
     let small = part-small m page n is begun within in
-    let one : IsTold m.backing m.range.count = rw (c.get-m.ensures m) (All-get_or (λ (x : Mapping). IsTold x.backing x.range.count) ms c.args.position m inside c.requires.told) in
-    let said = part-told m page n one begun within in
+    let one : IsEncodable m.backing m.range.count = rw (c.get-m.ensures m) (All-get_or (λ (x : Mapping). IsEncodable x.backing x.range.count) ms c.args.position m inside c.requires.encoded) in
+    let said = part-encoded m page n one begun within in
     IsTreeOf-page ms later (Some (part m later)) _ (rw (← c.get-m.ensures m) at found) (c.fill.ensures.filled (rw c.part.ensures small) (rw c.part.ensures said) k up less ∙ ap leaf entry)

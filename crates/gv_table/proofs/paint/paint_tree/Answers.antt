@@ -1,7 +1,7 @@
 use Rattle.std.proofs.Common.{arith}
 use Rattle.gv_table.specs.Levels.{slot_pages}
 use Rattle.gv_table.proofs.PagesOf.{pages_of-top}
-use Rattle.gv_table.proofs.Spans.{meets-from}
+use Rattle.gv_table.proofs.RangesMeet.{meets-from}
 use Rattle.gv_table.proofs.paint.paint_tree.Goals as goal
 
 pub paint_slot-requires-clause-in_space : goal.paint_slot-requires-clause-in_space

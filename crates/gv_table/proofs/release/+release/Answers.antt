@@ -6,9 +6,9 @@ use Rattle.gv_table.specs.Sums.{sum_below}
 use Rattle.gv_table.specs.Shape.{IsShaped}
 use Rattle.gv_table.specs.Tree.{is_table}
 use Rattle.gv_table.specs.Counts.{tables_in, tables_at}
-use Rattle.gv_table.proofs.Counts.{tables_in-other, tables_in-Table, tables_at-other, tables_at-Table, one_if-here}
+use Rattle.gv_table.proofs.TablesInSlots.{tables_in-other, tables_in-Table, tables_at-other, tables_at-Table, one_if-here}
 use Rattle.gv_table.proofs.KindLemmas.{one_of-high}
-use Rattle.gv_table.proofs.Rows.{row-below, row-above, row-read}
+use Rattle.gv_table.proofs.RowLoops.{row-below, row-above, row-read}
 use Rattle.gv_table.proofs.Shapes.{pages-level, table-parts}
 use Rattle.gv_table.proofs.Slots.{no-table}
 use Rattle.gv_table.proofs.Sums.{sum_below-none, sum_below-more, sum_below-part}
@@ -18,7 +18,7 @@ pub loop-index-init : goal.loop-index-init
 loop-index-init t c = record {
   below = λ k below. absurd (omega arith);
   above = λ k above. refl;
-  standing = λ target. let e = sum_below-none (λ k. tables_at target (c.args.level - 1) (slice_index_or c.in-Table.slots.value k Empty)) in omega (arith, e);
+  present = λ target. let e = sum_below-none (λ k. tables_at target (c.args.level - 1) (slice_index_or c.in-Table.slots.value k Empty)) in omega (arith, e);
   put = λ kind. (let e = sum_below-none (λ k. tables_in kind (c.args.level - 1) (slice_index_or c.in-Table.slots.value k Empty)) in omega (arith, e));
 }
 
@@ -33,10 +33,10 @@ loop-index-preserved t c =
     record {
       below = rw c.deref_mut.ensures.value (row-below (λ k s. s ≡ Empty) c.loop-index.slots.value c.loop-index.index _ within' c.release.ensures.emptied c.loop-index.invariant.below);
       above = rw c.deref_mut.ensures.value (row-above c.loop-index.slots.value c.in-Table.slots.value c.loop-index.index _ c.loop-index.invariant.above);
-      standing = λ target.
+      present = λ target.
           let one' = ap (λ (s : Slot). tables_at target (c.args.level - 1) s) read in
           let more' = sum_below-more c.loop-index.index (λ k. tables_at target (c.args.level - 1) (slice_index_or c.in-Table.slots.value k Empty)) in
-          let before = c.loop-index.invariant.standing target in
+          let before = c.loop-index.invariant.present target in
           let after = c.release.ensures.counted target in
           omega (arith, one', more', before, after);
       put = λ kind. omega (arith, more kind, one kind, c.loop-index.invariant.put kind, c.release.ensures.put kind);
@@ -60,7 +60,7 @@ release-requires t c =
                 let one = ap (λ (s : Slot). tables_at target (c.args.level - 1) s) read in
                 let part = sum_below-part 512 (λ k. tables_at target (c.args.level - 1) (slice_index_or c.in-Table.slots.value k Empty)) c.loop-index.index (omega arith) in
                 let whole = ap (λ (s : Slot). tables_at target c.args.level s) (sym table) ∙ tables_at-Table target c.args.level c.in-Table.slots (omega arith) in
-                let before = c.loop-index.invariant.standing target in
+                let before = c.loop-index.invariant.present target in
                 let all = c.requires.counted target in
                 omega (arith, one, part, whole, before, all),
           ),
@@ -75,7 +75,7 @@ lower-requires-clause-some t c =
     let here = one_if-here (c.args.level - 1) in
     let end : c.loop-index.index ≡ 512 = omega arith in
     let sums = ap (λ (n : ℕ). sum_below n (λ k. tables_at (c.args.level - 1) (c.args.level - 1) (slice_index_or c.in-Table.slots.value k Empty))) end in
-    let before = c.loop-index.invariant.standing (c.args.level - 1) in
+    let before = c.loop-index.invariant.present (c.args.level - 1) in
     let all = c.requires.counted (c.args.level - 1) in
     omega (arith, whole, here, sums, before, all)
 
@@ -85,7 +85,7 @@ returns-after-loop-index-clause-counted t c = λ target.
     let whole = ap (λ (s : Slot). tables_at target c.args.level s) (sym table) ∙ tables_at-Table target c.args.level c.in-Table.slots (omega arith) in
     let end : c.loop-index.index ≡ 512 = omega arith in
     let sums = ap (λ (n : ℕ). sum_below n (λ k. tables_at target (c.args.level - 1) (slice_index_or c.in-Table.slots.value k Empty))) end in
-    let before = c.loop-index.invariant.standing target in
+    let before = c.loop-index.invariant.present target in
     let last = c.lower.ensures target in
     omega (arith, whole, sums, before, last)
 

@@ -12,7 +12,7 @@ abbrev pub invariant-loop-index : goal.invariant-loop-index
 invariant-loop-index l = record {
   below : (k : ℕ) → k < l.index → slice_index_or l.slots.value k Empty ≡ Empty;
   above : (k : ℕ) → l.index ≤ k → slice_index_or l.slots.value k Empty ≡ slice_index_or l.initial.slots.value k Empty;
-  standing : (target : ℕ) →
+  present : (target : ℕ) →
       count_at l.counts target + sum_below l.index (λ k. tables_at target (l.level - 1) (slice_index_or l.initial.slots.value k Empty)) ≡ count_at l.initial.counts target;
-  put : (kind : Kind) → of kind l.left ≡ of kind l.initial.left + sum_below l.index (λ k. tables_in kind (l.level - 1) (slice_index_or l.initial.slots.value k Empty));
+  put : (kind : Kind) → of kind l.pruned ≡ of kind l.initial.pruned + sum_below l.index (λ k. tables_in kind (l.level - 1) (slice_index_or l.initial.slots.value k Empty));
 }

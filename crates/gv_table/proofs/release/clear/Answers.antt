@@ -1,7 +1,7 @@
 use Rattle.std.proofs.Common.{arith, sym, ◌∙◌, ◌≡◌, false}
 use Rattle.gv_table.specs.Kinds.{Kind}
 use Rattle.gv_table.specs.Tree.{is_table}
-use Rattle.gv_table.proofs.Counts.{tables_in-other, tables_at-other}
+use Rattle.gv_table.proofs.TablesInSlots.{tables_in-other, tables_at-other}
 use Rattle.gv_table.proofs.release.clear.Goals as goal
 
 pub returns-clause-put : goal.returns-clause-put

@@ -1,18 +1,18 @@
 use Rattle.std.proofs.Common.{arith, subst, ◌≡◌, ◌⊎◌, ◌<◌, ◌≤◌, inl, inr, ◌∙◌, sym, ap, ℕ, List, false, slice_index_or}
 use Rattle.gv_table.specs.Kinds.{Kind}
 use Rattle.gv_table.specs.declared.slot.Slot.{Slot}
-use Rattle.gv_table.specs.Names.{PageSlot}
+use Rattle.gv_table.specs.BufferNames.{PageSlot}
 use Rattle.gv_table.specs.declared.slot.Slot.TheVariants.{Pages, Table}
 use Rattle.gv_table.specs.Shape.{IsShaped}
 use Rattle.gv_table.specs.Tree.{is_table, child, slot_of, no_page}
 use Rattle.gv_table.specs.Counts.{tables_in, tables_at}
-use Rattle.gv_table.proofs.Counts.{tables_in-other, tables_in-pages, tables_at-other, tables_at-pages, one_if-here}
+use Rattle.gv_table.proofs.TablesInSlots.{tables_in-other, tables_in-pages, tables_at-other, tables_at-pages, one_if-here}
 use Rattle.gv_table.proofs.Slots.{no-table, child-Pages, empty-page}
 use Rattle.gv_table.proofs.Shapes.{table-level}
 use Rattle.gv_table.proofs.release.release_part.Goals as goal
 
-place-of : (k low high : ℕ) → ((k < low) ⊎ (high ≤ k)) ⊎ ((low ≤ k) × (k < high))
-place-of k low high = grind arith
+side-of : (k low high : ℕ) → ((k < low) ⊎ (high ≤ k)) ⊎ ((low ≤ k) × (k < high))
+side-of k low high = grind arith
 
 pub put_pages-requires : goal.put_pages-requires
 put_pages-requires c =
@@ -21,7 +21,7 @@ put_pages-requires c =
     let read = ap (λ (v : List PageSlot × Slot). slice_index_or v.0 k no_page) c.deref_mut.ensures.value in
     let held : child c.args.slot.now k ≡ slot_of (slice_index_or c.in-Pages.table.value.0 k no_page) =
     ap (λ (s : Slot). child s k) (sym table) ∙ child-Pages c.in-Pages.table k in
-    elim (place-of k c.args.low c.args.high) [
+    elim (side-of k c.args.low c.args.high) [
       | inl rest ↦ (
           let stays : slice_index_or c.empty.new.slots k no_page ≡ slice_index_or c.deref_mut.result.now.0 k no_page =
           elim rest [

@@ -4,7 +4,7 @@ use Rattle.gv_table.specs.declared.slot.Slot.{Slot}
 use Rattle.gv_table.specs.Named.{named}
 use Rattle.gv_table.specs.Tree.{IsTreeOf, HasNoEntry, leaf}
 use Rattle.gv_table.proofs.Named.{named-Empty, named-leaf}
-use Rattle.gv_table.proofs.Covered.{small-less}
+use Rattle.gv_table.proofs.CoveringMappings.{small-less}
 use Rattle.gv_table.proofs.Trees.{read-empty, read-leaf}
 use Rattle.gv_table.proofs.walk.held_by.Goals as goal
 

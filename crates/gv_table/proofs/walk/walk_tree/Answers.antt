@@ -1,6 +1,6 @@
 use Rattle.std.proofs.Common.{rules, arith, ◌≡◌, ◌+◌, ◌-◌, ◌*◌, ◌/◌, ◌<◌, ℕ, false, List, length, slice_index_or, sym, ap, ◌∙◌, subst}
 use Rattle.std.proofs.lemmas.List.{get_or_default}
-use Rattle.gv_table.specs.Names.{PageSlot}
+use Rattle.gv_table.specs.BufferNames.{PageSlot}
 use Rattle.gv_table.specs.declared.slot.Slot.{Slot}
 use Rattle.gv_table.specs.declared.slot.Slot.TheVariants.{Empty}
 use Rattle.gv_table.specs.Levels.{pages_of}
@@ -19,7 +19,7 @@ loop-level-init c =
     let none : c.args.page - c.args.page ≡ 0 = omega arith in
     record {
       known = omega arith;
-      near = omega arith;
+      not_past = omega arith;
       within = omega (arith, all, c.requires);
       tree = λ ms laid tree. rw none tree;
     }
@@ -55,7 +55,7 @@ loop-level-preserved c =
     ap (λ (n : ℕ). n * c.pages_of.result) is ∙ ap (λ (n : ℕ). c.loop-level.distance / pages_of (c.loop-level.level - 1) * n) pages in
     let start : c.args.page - (c.loop-level.distance - c.slots_in-index.result * c.pages_of.result) ≡
     c.args.page - c.loop-level.distance + c.slots_in-index.result * pages_of (c.loop-level.level - 1) =
-    (let same = ap (λ (n : ℕ). c.slots_in-index.result * n) pages in omega (arith, taken, same, i, inv.near)) in
+    (let same = ap (λ (n : ℕ). c.slots_in-index.result * n) pages in omega (arith, taken, same, i, inv.not_past)) in
     let long : length c.deref.result.now ≡ 512 = search rules in
     let read : child c.loop-level.slot.now k ≡ slice_index_or c.deref.result.now k c.index-deref-index.result =
     ap (λ (s : Slot). child s k) c.in-Table.is ∙ child-Table c.in-Table.slots k ∙
@@ -63,7 +63,7 @@ loop-level-preserved c =
     get_or_default c.deref.result.now k Empty c.index-deref-index.result (omega (arith, below', long)) in
     record {
       known = omega (arith, inv.known);
-      near = omega (arith, inv.near);
+      not_past = omega (arith, inv.not_past);
       within = omega (arith, taken, i);
       tree = λ ms laid tree.
           subst (λ (n : ℕ). IsTreeOf ms (c.loop-level.level - 1) n (named c.args.names.now (slice_index_or c.deref.result.now k c.index-deref-index.result))) (sym start)
@@ -104,7 +104,7 @@ returns-in-Pages c = λ ms laid tree.
     (subst (λ (s : Slot). IsTreeOf ms (c.loop-level.level - 1) (c.args.page - c.loop-level.distance + k * pages_of (c.loop-level.level - 1)) s)
     (child-named c.args.names.now c.loop-level.slot.now k ∙ ap (named c.args.names.now) read) part) (omega (arith, taken, i)) in
     let back : c.args.page - c.loop-level.distance + c.slots_in-index-in-Pages.result * pages_of (c.loop-level.level - 1) +
-    (c.loop-level.distance - c.slots_in-index-in-Pages.result * c.pages_of-in-Pages.result) ≡ c.args.page = omega (arith, taken, same, i, inv.near) in
+    (c.loop-level.distance - c.slots_in-index-in-Pages.result * c.pages_of-in-Pages.result) ≡ c.args.page = omega (arith, taken, same, i, inv.not_past) in
     rw back at found
 
 pub returns : goal.returns
@@ -120,5 +120,5 @@ returns c = λ ms laid tree.
       | then-loop-level-test+in-Empty-3 w ↦ no-table c.loop-level.slot.now w.in-Empty.is
     ] in
     let found = c.held_by.ensures ms c.loop-level.level (c.args.page - c.loop-level.distance) laid here other c.loop-level.invariant.within in
-    let back : c.args.page - c.loop-level.distance + c.loop-level.distance ≡ c.args.page = omega (arith, c.loop-level.invariant.near) in
+    let back : c.args.page - c.loop-level.distance + c.loop-level.distance ≡ c.args.page = omega (arith, c.loop-level.invariant.not_past) in
     rw back at found

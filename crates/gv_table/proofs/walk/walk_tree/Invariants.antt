@@ -9,7 +9,7 @@ use Rattle.gv_table.proofs.walk.walk_tree.Given as goal
 abbrev pub invariant-loop-level : goal.invariant-loop-level
 invariant-loop-level l = record {
   known : l.level ≤ 5;
-  near : l.distance ≤ l.page;
+  not_past : l.distance ≤ l.page;
   within : l.distance < pages_of l.level;
   tree : (ms : List Mapping) → IsLaidOut ms → IsTreeOf ms 5 0 (named l.fn.names l.fn.root) → IsTreeOf ms l.level (l.page - l.distance) (named l.fn.names l.slot);
 }

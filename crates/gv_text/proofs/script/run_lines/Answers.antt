@@ -1,5 +1,5 @@
 use Rattle.std.proofs.lemmas.Result.{err_from_is_err_and}
-use Rattle.gv_text.proofs.Front.{nothing_ran}
+use Rattle.gv_text.proofs.LinesRun.{nothing_ran}
 use Rattle.gv_text.proofs.script.run_lines.Goals as goal
 
 pub returns-in_err-new-clause-ends : goal.returns-in_err-new-clause-ends

@@ -3,11 +3,11 @@ use Rattle.gv_types.specs.declared.fault.Fault.TheVariants.{OutOfMemory}
 use Rattle.gv_vm.specs.Step.{event_fault}
 use Rattle.gv_vm.specs.declared.event.Event.TheVariants.{Create}
 use Rattle.gv_vm.specs.declared.event.Reply.TheVariants.{Created, Refused}
-use Rattle.gv_session.specs.Reply.{ok_reply, refused_reply}
+use Rattle.gv_session.specs.Texts.{ok_reply, refused_reply}
 use Rattle.gv_session.specs.State.{Buffers, buffer_named}
 use Rattle.gv_session.proofs.AnswerLemmas.{fault_but_memory, none_from_ok, none_of}
 use Rattle.gv_threads.specs.Running.{Ready, ready_of}
-use Rattle.gv_threads.proofs.Firsts.{refused_creates}
+use Rattle.gv_threads.proofs.FirstPart.{refused_creates}
 use Rattle.gv_threads.proofs.first.make_buffer.Goals as goal
 
 pub returns-in_ok-push_str-in-Ok-clause-done : goal.returns-in_ok-push_str-in-Ok-clause-done

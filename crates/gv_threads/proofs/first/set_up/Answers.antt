@@ -1,22 +1,22 @@
 use Rattle.std.proofs.Common.{◌≡◌, ◌<◌, ◌∙◌, Some, List, ℕ, ap, sym, rules}
 use Rattle.gv_sync.specs.Seats.{SeatState, timeline_count}
 use Rattle.gv_types.specs.declared.request.Point.{Point}
-use Rattle.gv_session.specs.Asking.{point_named}
-use Rattle.gv_session.specs.Reply.{number_reply}
+use Rattle.gv_session.specs.Requests.{point_named}
+use Rattle.gv_session.specs.Texts.{number_reply}
 use Rattle.gv_session.proofs.AnswerLemmas.{of_found, ok_or_some}
 use Rattle.gv_threads.specs.Running.{Ready, IsFirst, ready_of}
-use Rattle.gv_threads.proofs.Firsts.{first_more, number_of}
+use Rattle.gv_threads.proofs.FirstPart.{first_more, number_of}
 use Rattle.gv_threads.proofs.first.set_up.Goals as goal
 
 pub returns-in_err-write_number-in-Raise-clause-first : goal.returns-in_err-write_number-in-Raise-clause-first
 returns-in_err-write_number-in-Raise-clause-first c =
     let named : c.in_ok-point-in-Raise.point.timeline < timeline_count c.args.harness.now.seat.of = search rules in
-    first_more c.turns.ensures.one_more c.in_ok-point-in-Raise.point c.raise-now.result c.args.harness.now.seat c.raise-now.new.seat c.requires.first named c.raise-now.ensures.no_less c.raise-now.ensures.step
+    first_more c.seat_raises.ensures.one_more c.in_ok-point-in-Raise.point c.raise-now.result c.args.harness.now.seat c.raise-now.new.seat c.requires.first named c.raise-now.ensures.no_less c.raise-now.ensures.step
 
 pub returns-in_ok-write_number-in-Raise-clause-first : goal.returns-in_ok-write_number-in-Raise-clause-first
 returns-in_ok-write_number-in-Raise-clause-first c =
     let named : c.in_ok-point-in-Raise.point.timeline < timeline_count c.args.harness.now.seat.of = search rules in
-    first_more c.turns.ensures.one_more c.in_ok-point-in-Raise.point c.raise-now.result c.args.harness.now.seat c.raise-now.new.seat c.requires.first named c.raise-now.ensures.no_less c.raise-now.ensures.step
+    first_more c.seat_raises.ensures.one_more c.in_ok-point-in-Raise.point c.raise-now.result c.args.harness.now.seat c.raise-now.new.seat c.requires.first named c.raise-now.ensures.no_less c.raise-now.ensures.step
 
 pub returns-in-Buffer-clause-done : goal.returns-in-Buffer-clause-done
 returns-in-Buffer-clause-done c = rw c.in-Buffer.is (c.make_buffer.ensures.done c.args.names.now.names)
@@ -27,7 +27,7 @@ returns-in_ok-write_number-in-Raise-clause-done c =
     let names : List (List ℕ) = c.args.names.now.names in
     let named : p.timeline < timeline_count c.args.harness.now.seat.of = search rules in
     let first : IsFirst c.raise-now.new.seat =
-    first_more c.turns.ensures.one_more p c.raise-now.result c.args.harness.now.seat c.raise-now.new.seat c.requires.first named c.raise-now.ensures.no_less c.raise-now.ensures.step in
+    first_more c.seat_raises.ensures.one_more p c.raise-now.result c.args.harness.now.seat c.raise-now.new.seat c.requires.first named c.raise-now.ensures.no_less c.raise-now.ensures.step in
     let found : Some p ≡ point_named names c.in-Raise.point =
     sym (ok_or_some c.point_named.result _ p c.in_ok-point-in-Raise.ensures.value) ∙ c.point_named.ensures in
     rw c.in-Raise.is (

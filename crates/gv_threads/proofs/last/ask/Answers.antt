@@ -1,8 +1,8 @@
 use Rattle.std.proofs.Common.{refl}
 use Rattle.gv_session.proofs.AnswerLemmas.{then_ok}
-use Rattle.gv_threads.proofs.Asks.{is_answered, is_question}
+use Rattle.gv_threads.proofs.LastPart.{is_answered, is_question}
 use Rattle.gv_session.specs.State.{start}
-use Rattle.gv_threads.proofs.Named.{has_good}
+use Rattle.gv_threads.proofs.UndeclaredNames.{has_good}
 use Rattle.gv_threads.proofs.last.ask.Goals as goal
 
 pub returns-in_default : goal.returns-in_default

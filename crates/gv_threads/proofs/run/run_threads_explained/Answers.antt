@@ -5,9 +5,9 @@ use Rattle.gv_lines.specs.declared.line.Line.{Line}
 use Rattle.gv_session.proofs.AnswerLemmas.{then_ok}
 use Rattle.gv_threads.specs.Parts.{AreLinesOf, IsAsked, unnumbered}
 use Rattle.gv_threads.specs.Running.{IsTextOf, Ready}
-use Rattle.gv_threads.proofs.Flags.{from_first}
-use Rattle.gv_threads.proofs.Kept.{asked_all}
-use Rattle.gv_threads.proofs.Served.{begins_as}
+use Rattle.gv_threads.proofs.DeviceFlags.{from_first}
+use Rattle.gv_threads.proofs.LinesRead.{asked_all}
+use Rattle.gv_threads.proofs.WholeRun.{begins_as}
 use Rattle.gv_threads.proofs.run.run_threads_explained.Goals as goal
 
 pub run_on-requires-clause-asked : goal.run_on-requires-clause-asked

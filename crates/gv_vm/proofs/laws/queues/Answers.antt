@@ -1,4 +1,4 @@
-use Rattle.gv_vm.proofs.Follows.{runs_remember, told_was_put, waits_were_reached}
+use Rattle.gv_vm.proofs.QueueHistorySteps.{runs_remember, told_was_put, waits_were_reached}
 use Rattle.gv_vm.proofs.laws.queues.Goals as goal
 
 pub returns-clause-order : goal.returns-clause-order

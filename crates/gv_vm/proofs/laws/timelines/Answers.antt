@@ -1,4 +1,4 @@
-use Rattle.gv_vm.proofs.Rising.{never_falls, follows_raises}
+use Rattle.gv_vm.proofs.TimelinesRise.{never_falls, follows_raises}
 use Rattle.gv_vm.proofs.laws.timelines.Goals as goal
 
 pub returns-clause-rise : goal.returns-clause-rise

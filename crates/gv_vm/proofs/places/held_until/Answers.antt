@@ -1,8 +1,8 @@
 use Rattle.std.proofs.Common.{◌∙◌, ◌<◌, ap, arith, sym, Some}
 use Rattle.std.proofs.lemmas.Bool.{and_from, le-leb, lt-ltb}
 use Rattle.gv_types.specs.PageRange.{end_of}
-use Rattle.gv_ranges.proofs.BehindLemmas.{found_behind, at-none_behind, at-before_behind, at-of_behind}
-use Rattle.gv_vm.proofs.Runs.{to_the_end, to_the_next, to_its_end}
+use Rattle.gv_ranges.proofs.EndingAfterLemmas.{found_behind, at-none_behind, at-before_behind, at-of_behind}
+use Rattle.gv_vm.proofs.StretchEnds.{to_the_end, to_the_next, to_its_end}
 use Rattle.gv_vm.proofs.places.held_until.Goals as goal
 
 pub returns-in_default-clause-entry : goal.returns-in_default-clause-entry

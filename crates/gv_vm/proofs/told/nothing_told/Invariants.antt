@@ -1,6 +1,6 @@
 use Rattle.std.proofs.Common.{◌≡◌, [], replicate, vec_len, vec_capacity}
 use Rattle.gv_vm.specs.Outcomes.{queues}
-use Rattle.gv_vm.specs.Telling.{lists_of, forgotten_in}
+use Rattle.gv_vm.specs.QueueOutcomes.{lists_of, forgotten_in}
 use Rattle.gv_vm.proofs.told.nothing_told.Given as goal
 
 abbrev pub invariant-loop-queue : goal.invariant-loop-queue

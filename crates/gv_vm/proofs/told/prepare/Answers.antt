@@ -1,5 +1,5 @@
 use Rattle.std.proofs.Common.{◌∙◌, ap}
-use Rattle.gv_vm.proofs.Lists.{same_lists, same_forgotten, list_of, gone_of}
+use Rattle.gv_vm.proofs.OutcomeLists.{same_lists, same_forgotten, list_of, gone_of}
 use Rattle.gv_vm.proofs.told.prepare.Goals as goal
 
 pub returns-in_err-reserve-clause-same : goal.returns-in_err-reserve-clause-same

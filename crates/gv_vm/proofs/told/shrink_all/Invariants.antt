@@ -1,5 +1,5 @@
 use Rattle.std.proofs.Common.{◌≡◌}
-use Rattle.gv_vm.specs.Telling.{lists_of, forgotten_in}
+use Rattle.gv_vm.specs.QueueOutcomes.{lists_of, forgotten_in}
 use Rattle.gv_vm.proofs.told.shrink_all.Given as goal
 
 abbrev pub invariant-loop-queue : goal.invariant-loop-queue

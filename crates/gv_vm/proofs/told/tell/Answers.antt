@@ -1,12 +1,12 @@
 use Rattle.std.proofs.Common.{◌∙◌, ◌++◌, ◌∷◌, [], ap}
-use Rattle.gv_vm.specs.Telling.{ToldState}
-use Rattle.gv_vm.proofs.Lists.{outcome_there, same_forgotten, gone_of}
+use Rattle.gv_vm.specs.QueueOutcomes.{QueueOutcomesState}
+use Rattle.gv_vm.proofs.OutcomeLists.{outcome_there, same_forgotten, gone_of}
 use Rattle.gv_vm.proofs.told.tell.Goals as goal
 
 pub returns-clause-list : goal.returns-clause-list
 returns-clause-list c =
     outcome_there c.args.told.now.items c.args.queue c.push.new.self c.index_mut.result.now c.args.outcome c.requires.queue
-    (c.push.ensures.list ∙ ap (λ (t : ToldState). t.list ++ c.args.outcome ∷ []) c.index_mut.ensures.value)
+    (c.push.ensures.list ∙ ap (λ (t : QueueOutcomesState). t.list ++ c.args.outcome ∷ []) c.index_mut.ensures.value)
 
 pub returns-clause-forgotten : goal.returns-clause-forgotten
 returns-clause-forgotten c =

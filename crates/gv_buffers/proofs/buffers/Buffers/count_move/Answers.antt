@@ -1,7 +1,7 @@
 use Rattle.std.proofs.Common.{refl}
 use Rattle.gv_buffers.specs.Buffers.{buffer}
 use Rattle.gv_buffers.specs.Slots.{CanMove, after_move}
-use Rattle.gv_buffers.proofs.Tables.{moved, in_place, some_lives, IsBuffer-after_move}
+use Rattle.gv_buffers.proofs.TablesAndSlots.{moved, in_place, some_lives, IsBuffer-after_move}
 use Rattle.gv_buffers.proofs.buffers.Buffers.count_move.Goals as goal
 
 pub count_move-requires : goal.count_move-requires

@@ -3,7 +3,7 @@ use Rattle.std.specs.Option.{option_map}
 use Rattle.gv_buffers.specs.declared.live_buffer.LiveBuffer.{LiveBuffer}
 use Rattle.gv_buffers.specs.Slots.{buffer_at}
 use Rattle.gv_buffers.specs.Buffers.{count}
-use Rattle.gv_buffers.proofs.Tables.{is_table, read_from_map, field_in_slot}
+use Rattle.gv_buffers.proofs.TablesAndSlots.{is_table, read_from_map, field_in_slot}
 use Rattle.gv_buffers.proofs.buffers.Buffers.counted.Goals as goal
 
 pub returns-clause-value : goal.returns-clause-value

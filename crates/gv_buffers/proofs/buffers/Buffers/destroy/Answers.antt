@@ -2,8 +2,8 @@ use Rattle.std.proofs.Common.{◌≡◌, None, Some, sym, ap, refl}
 use Rattle.std.proofs.lemmas.Result.{err_from_is_err_and}
 use Rattle.gv_buffers.specs.Slots.{live_at}
 use Rattle.gv_buffers.specs.Buffers.{destroy_fault_of}
-use Rattle.gv_buffers.proofs.Tables.{found_buffer, missed_buffer}
-use Rattle.gv_buffers.proofs.Making.{destroyed}
+use Rattle.gv_buffers.proofs.TablesAndSlots.{found_buffer, missed_buffer}
+use Rattle.gv_buffers.proofs.MakeAndDestroy.{destroyed}
 use Rattle.gv_buffers.proofs.buffers.Buffers.destroy.Goals as goal
 
 pub returns-in_default-clause-fault : goal.returns-in_default-clause-fault

@@ -4,8 +4,8 @@ use Rattle.std.proofs.lemmas.Result.{err_from_is_err_and}
 use Rattle.gv_buffers.specs.Users.{conflict}
 use Rattle.gv_buffers.specs.Slots.{buffer_at, live_at}
 use Rattle.gv_buffers.specs.Buffers.{join_fault_of, joined_by}
-use Rattle.gv_buffers.proofs.Tables.{is_table, found_buffer, missed_buffer}
-use Rattle.gv_buffers.proofs.Using.{unchanged, no_conflict_in_slot, joined_table}
+use Rattle.gv_buffers.proofs.TablesAndSlots.{is_table, found_buffer, missed_buffer}
+use Rattle.gv_buffers.proofs.JoinAndLeave.{unchanged, no_conflict_in_slot, joined_table}
 use Rattle.gv_buffers.proofs.buffers.Buffers.join.Goals as goal
 
 pub returns-in_default-clause-fault : goal.returns-in_default-clause-fault
@@ -28,11 +28,11 @@ returns-in-Some-conflict-clause-fault c =
 
 pub invariant_of-self : goal.invariant_of-self
 invariant_of-self c =
-    (unchanged c.self.inside c.args.self.now c.make_room.new.self c.make_room.new.indices c.self.invariant c.self.view_is c.in_err-make_room.ensures.vacant c.in_err-make_room.ensures.length
-    c.in_err-make_room.ensures.same c.in_err-make_room.ensures.keeps).sound
+    (unchanged c.self.inside c.args.self.now c.reserve_user.new.self c.reserve_user.new.indices c.self.invariant c.self.view_is c.in_err-reserve_user.ensures.vacant c.in_err-reserve_user.ensures.length
+    c.in_err-reserve_user.ensures.same c.in_err-reserve_user.ensures.keeps).sound
 
-pub returns-in_err-make_room-clause-fault : goal.returns-in_err-make_room-clause-fault
-returns-in_err-make_room-clause-fault c =
+pub returns-in_err-reserve_user-clause-fault : goal.returns-in_err-reserve_user-clause-fault
+returns-in_err-reserve_user-clause-fault c =
     let slot = c.in-Some.slot.now in
     let found : live_at c.self.inside.slots.entries.items c.args.id ≡ Some c.in-Some.slot.now = rw c.in-Some.is at (sym c.get.ensures) in
     let meets_none : conflict c.args.job c.args.usage slot.users.list.items ≡ None =
@@ -40,11 +40,11 @@ returns-in_err-make_room-clause-fault c =
     let p = err_from_is_err_and c.from_residual.result c.from_residual.ensures.1 in
     rw (ap (join_fault_of c.args.job c.args.usage) (found_buffer c.self.inside c.args.self.now c.args.id slot c.self.view_is found)) (rw (meets_none, p.1) p.2)
 
-pub returns-in_err-make_room-clause-err : goal.returns-in_err-make_room-clause-err
-returns-in_err-make_room-clause-err c =
+pub returns-in_err-reserve_user-clause-err : goal.returns-in_err-reserve_user-clause-err
+returns-in_err-reserve_user-clause-err c =
     let p = err_from_is_err_and c.from_residual.result c.from_residual.ensures.1 in
-    rw p.1 (unchanged c.self.inside c.args.self.now c.make_room.new.self c.make_room.new.indices c.self.invariant c.self.view_is c.in_err-make_room.ensures.vacant c.in_err-make_room.ensures.length
-    c.in_err-make_room.ensures.same c.in_err-make_room.ensures.keeps).table
+    rw p.1 (unchanged c.self.inside c.args.self.now c.reserve_user.new.self c.reserve_user.new.indices c.self.invariant c.self.view_is c.in_err-reserve_user.ensures.vacant c.in_err-reserve_user.ensures.length
+    c.in_err-reserve_user.ensures.same c.in_err-reserve_user.ensures.keeps).table
 
 pub invariant_of-self-2 : goal.invariant_of-self-2
 invariant_of-self-2 c =
@@ -52,8 +52,8 @@ invariant_of-self-2 c =
     let found : live_at c.self.inside.slots.entries.items c.args.id ≡ Some c.in-Some.slot.now = rw c.in-Some.is at (sym c.get.ensures) in
     let meets_none : conflict c.args.job c.args.usage slot.users.list.items ≡ None =
     sym c.conflict.ensures ∙ c.in_default-conflict.is in
-    let room = c.in_ok-make_room.ensures in
-    (joined_table c.self.inside c.args.self.now c.join.new.self c.make_room.new.indices c.args.id slot c.args.job c.args.usage c.self.invariant c.self.view_is (c.join.ensures.vacant ∙ room.vacant) (c.join.ensures.length ∙ room.length) found meets_none
+    let room = c.in_ok-reserve_user.ensures in
+    (joined_table c.self.inside c.args.self.now c.join.new.self c.reserve_user.new.indices c.args.id slot c.args.job c.args.usage c.self.invariant c.self.view_is (c.join.ensures.vacant ∙ room.vacant) (c.join.ensures.length ∙ room.length) found meets_none
     (c.join.ensures.here ∙ ap (option_map (joined_by c.args.job c.args.usage)) (room.same c.args.id.index))
     (λ (index : ℕ) (apart : index ≢ c.args.id.index). ap (option_map (buffer_at index)) (c.join.ensures.others index apart) ∙ room.same index)
     room.keeps room.noted).sound
@@ -72,8 +72,8 @@ returns-clause-ok c =
     let found : live_at c.self.inside.slots.entries.items c.args.id ≡ Some c.in-Some.slot.now = rw c.in-Some.is at (sym c.get.ensures) in
     let meets_none : conflict c.args.job c.args.usage slot.users.list.items ≡ None =
     sym c.conflict.ensures ∙ c.in_default-conflict.is in
-    let room = c.in_ok-make_room.ensures in
-    (joined_table c.self.inside c.args.self.now c.join.new.self c.make_room.new.indices c.args.id slot c.args.job c.args.usage c.self.invariant c.self.view_is (c.join.ensures.vacant ∙ room.vacant) (c.join.ensures.length ∙ room.length) found meets_none
+    let room = c.in_ok-reserve_user.ensures in
+    (joined_table c.self.inside c.args.self.now c.join.new.self c.reserve_user.new.indices c.args.id slot c.args.job c.args.usage c.self.invariant c.self.view_is (c.join.ensures.vacant ∙ room.vacant) (c.join.ensures.length ∙ room.length) found meets_none
     (c.join.ensures.here ∙ ap (option_map (joined_by c.args.job c.args.usage)) (room.same c.args.id.index))
     (λ (index : ℕ) (apart : index ≢ c.args.id.index). ap (option_map (buffer_at index)) (c.join.ensures.others index apart) ∙ room.same index)
     room.keeps room.noted).table
@@ -84,11 +84,11 @@ returns-in_default-clause-table c = is_table c.self.inside c.args.self.now c.sel
 pub returns-in-Some-conflict-clause-table : goal.returns-in-Some-conflict-clause-table
 returns-in-Some-conflict-clause-table c = is_table c.self.inside c.args.self.now c.self.invariant c.self.view_is
 
-pub returns-in_err-make_room-clause-table : goal.returns-in_err-make_room-clause-table
-returns-in_err-make_room-clause-table c =
+pub returns-in_err-reserve_user-clause-table : goal.returns-in_err-reserve_user-clause-table
+returns-in_err-reserve_user-clause-table c =
     is_table _ _
-    (unchanged c.self.inside c.args.self.now c.make_room.new.self c.make_room.new.indices c.self.invariant c.self.view_is c.in_err-make_room.ensures.vacant c.in_err-make_room.ensures.length
-    c.in_err-make_room.ensures.same c.in_err-make_room.ensures.keeps).sound refl
+    (unchanged c.self.inside c.args.self.now c.reserve_user.new.self c.reserve_user.new.indices c.self.invariant c.self.view_is c.in_err-reserve_user.ensures.vacant c.in_err-reserve_user.ensures.length
+    c.in_err-reserve_user.ensures.same c.in_err-reserve_user.ensures.keeps).sound refl
 
 pub returns-clause-table : goal.returns-clause-table
 returns-clause-table c =
@@ -96,9 +96,9 @@ returns-clause-table c =
     let found : live_at c.self.inside.slots.entries.items c.args.id ≡ Some c.in-Some.slot.now = rw c.in-Some.is at (sym c.get.ensures) in
     let meets_none : conflict c.args.job c.args.usage slot.users.list.items ≡ None =
     sym c.conflict.ensures ∙ c.in_default-conflict.is in
-    let room = c.in_ok-make_room.ensures in
+    let room = c.in_ok-reserve_user.ensures in
     is_table _ _
-    (joined_table c.self.inside c.args.self.now c.join.new.self c.make_room.new.indices c.args.id slot c.args.job c.args.usage c.self.invariant c.self.view_is (c.join.ensures.vacant ∙ room.vacant) (c.join.ensures.length ∙ room.length) found meets_none
+    (joined_table c.self.inside c.args.self.now c.join.new.self c.reserve_user.new.indices c.args.id slot c.args.job c.args.usage c.self.invariant c.self.view_is (c.join.ensures.vacant ∙ room.vacant) (c.join.ensures.length ∙ room.length) found meets_none
     (c.join.ensures.here ∙ ap (option_map (joined_by c.args.job c.args.usage)) (room.same c.args.id.index))
     (λ (index : ℕ) (apart : index ≢ c.args.id.index). ap (option_map (buffer_at index)) (c.join.ensures.others index apart) ∙ room.same index)
     room.keeps room.noted).sound refl

@@ -1,6 +1,6 @@
 use Rattle.std.proofs.Common.{ℕ, List, refl, sym, subst, inr, Contains}
-use Rattle.gv_buffers.proofs.Tables.{is_table}
-use Rattle.gv_buffers.proofs.Using.{left_table}
+use Rattle.gv_buffers.proofs.TablesAndSlots.{is_table}
+use Rattle.gv_buffers.proofs.JoinAndLeave.{left_table}
 use Rattle.gv_buffers.proofs.buffers.Buffers.leave.Goals as goal
 
 pub returns-in-Some : goal.returns-in-Some

@@ -1,5 +1,5 @@
 use Rattle.std.proofs.Common.{arith}
-use Rattle.gv_buffers.proofs.Tables.{count_live}
+use Rattle.gv_buffers.proofs.TablesAndSlots.{count_live}
 use Rattle.gv_buffers.proofs.buffers.Buffers.live.Goals as goal
 
 pub returns : goal.returns

@@ -1,6 +1,6 @@
 use Rattle.std.proofs.Common.{◌∙◌, refl, arith, ap, length}
 use Rattle.gv_buffers.specs.Buffers.{BuffersState, next_index}
-use Rattle.gv_buffers.proofs.Making.{next_from_slots, next_few}
+use Rattle.gv_buffers.proofs.MakeAndDestroy.{next_from_slots, next_few}
 use Rattle.gv_buffers.proofs.buffers.Buffers.next_index.Goals as goal
 
 pub returns-clause-index : goal.returns-clause-index

@@ -1,7 +1,7 @@
 use Rattle.std.proofs.Common.{rules, ap, ◌∙◌}
 use Rattle.std.specs.Option.{option_map}
 use Rattle.gv_buffers.specs.declared.live_buffer.LiveBuffer.{LiveBuffer}
-use Rattle.gv_buffers.proofs.Tables.{is_table, read_from_map, field_in_slot}
+use Rattle.gv_buffers.proofs.TablesAndSlots.{is_table, read_from_map, field_in_slot}
 use Rattle.gv_buffers.proofs.buffers.Buffers.pages.Goals as goal
 
 pub returns-clause-value : goal.returns-clause-value

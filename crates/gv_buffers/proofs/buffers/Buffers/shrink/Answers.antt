@@ -1,4 +1,4 @@
-use Rattle.gv_buffers.proofs.Using.{unchanged}
+use Rattle.gv_buffers.proofs.JoinAndLeave.{unchanged}
 use Rattle.gv_buffers.proofs.buffers.Buffers.shrink.Goals as goal
 
 pub invariant_of-self : goal.invariant_of-self

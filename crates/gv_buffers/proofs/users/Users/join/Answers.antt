@@ -1,6 +1,6 @@
 use Rattle.std.proofs.Common.{◌≡◌, Some, None, true, ap, is_some, ◌∙◌, position}
 use Rattle.std.proofs.lemmas.List.Quantifiers.{position-Some}
-use Rattle.gv_buffers.proofs.Joins.{is_of, set_joined, push_joined_past, past_from_none}
+use Rattle.gv_buffers.proofs.UsersAfterJoin.{is_of, set_joined, push_joined_past, past_from_none}
 use Rattle.gv_buffers.proofs.users.Users.join.Goals as goal
 
 pub push_reserved-requires : goal.push_reserved-requires

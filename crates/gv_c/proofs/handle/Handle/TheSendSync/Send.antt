@@ -13,7 +13,7 @@ use Rattle.std.specs.declared.option.Option.TheVariants.{None, Some}
 use Rattle.std.specs.contracts.impls.GlobalAllocator.TheImpl.{ghosts}
 use Rattle.std.proofs.Crossing.{frees}
 use Rattle.std_alloc.proofs.SendSync.{lies, quiet}
-use Rattle.gv_c.specs.Slots.{slot_owns}
+use Rattle.gv_c.specs.HandleOwnership.{handle_owns}
 use Rattle.gv_vm.proofs.SendLemmas.{world_send}
 use Rattle.gv_c.proofs.Handles.{R}
 use Rattle.gv_c.specs.contracts.held.Held.{the_type as held_type}
@@ -22,7 +22,7 @@ use Rattle.gv_c.specs.contracts.handle.Handle.{the_row, the_type}
 held_send : IsSend R
 held_send = declared_send held_type (world_send, tt)
 
-slot_keyless : (a : Global) (p : Ptr) (k : Option R.Denot) → Keyless (slot_owns (ghosts.dealloc_token a) R p k)
+slot_keyless : (a : Global) (p : Ptr) (k : Option R.Denot) → Keyless (handle_owns (ghosts.dealloc_token a) R p k)
 slot_keyless a p None = tt
 slot_keyless a p (Some x) = (lies R held_send p x, frees.frees a (raw (lone R.mir)) p)
 

@@ -16,7 +16,7 @@ use denote.Steps.{nothing}
 use denote.Triple.Walked.{Stays, walk_of, says, stay_dropped, Goes-dropped, ends_at}
 use Rattle.std.specs.Prelude.{None}
 use Rattle.std.proofs.raw_atomic.Walks.{proved_at}
-use Rattle.gv_c.proofs.Pairs.{both, both_good, word_of, pair_in, at_words}
+use Rattle.gv_c.proofs.Pairs.{both, both_good, one_value, pair_in, at_values}
 use Rattle.gv_c.proofs.Handles.{Z, LZ}
 use Rattle.gv_c.specs.contracts.handle.Handle.none as f
 use Rattle.gv_c.proofs.handle.Handle.none.Statement.{statement}
@@ -32,8 +32,8 @@ none_spec 𝓤 𝓛 𝓜 𝓡 wired =
     f.Key.name code.function (code.unfolded 𝓤 𝓛.H 𝓜 𝓡 wired) (λ y are.
     let a = y.0.3.0 in let Run = λ (ws : List Val). WpFn 𝓤 𝓛.H 𝓣.C 𝓣.Λ code.function ws (W.post y) in
     qed 𝓛 ((‵ ftrue ⊛ ‵ (owns (Z ∷ []) y.0.3 y.0.4)) ∷ raw ((c y.0.0 y.0.3).requires y.1) ∷ []) ∵ split ! $ move ! (1 ∷ []) $ fsplit ! $ keep ! (0 ∷ []) $
-    word_of Z LZ ! a y.0.4.0 (λ h words good.
-    suffices ! (Run (h ∷ [])) (at_words 𝓤 Run (λ i. words i ++ [])) $
+    one_value Z LZ ! a y.0.4.0 (λ h words good.
+    suffices ! (Run (h ∷ [])) (at_values 𝓤 Run (λ i. words i ++ [])) $
     -- [the allocator; the locals]
     enter ! _ _ _ _ _ $ alloc_all ! (λ l. pass_all ! refl (good, tt) $
     pair_in Z LZ ! null_ptr a h $ feq_i ! Ptr null_ptr null_ptr refl $ move ! (1 ∷ 0 ∷ []) $ fjoin ! $

@@ -24,8 +24,8 @@ use Rattle.core.proofs.atomic.Steps.{Ptr-Good}
 use Rattle.core.proofs.cell.Inside.{Good}
 use Rattle.std_alloc.proofs.ResultValues.{and_tt}
 use Rattle.std.proofs.raw_atomic.Walks.{proved_at}
-use Rattle.gv_c.proofs.Pairs.{both, both_good, pair_out, pair_in, at_words}
-use Rattle.gv_c.proofs.Handles.{Z, LZ, Loose, slot_cases}
+use Rattle.gv_c.proofs.Pairs.{both, both_good, pair_out, pair_in, at_values}
+use Rattle.gv_c.proofs.Handles.{Z, LZ, RawBox, handle_cases}
 use Rattle.gv_c.specs.contracts.handle.Handle.{the_row as Handle}
 use Rattle.gv_c.specs.contracts.handle.Handle.unpack as f
 use Rattle.gv_c.proofs.handle.Handle.unpack.Statement.{statement}
@@ -42,10 +42,10 @@ unpack_spec 𝓤 𝓛 𝓜 𝓡 wired =
     let d = y.0.3.0 in let a = d.alloc in let Run = λ (ws : List Val). WpFn 𝓤 𝓛.H 𝓣.C 𝓣.Λ code.function ws (W.post y) in
     qed 𝓛 ((‵ ftrue ⊛ ‵ (owns (Handle ∷ []) y.0.3 y.0.4)) ∷ raw ((c y.0.0 y.0.3).requires y.1) ∷ []) ∵
     split ! $ move ! (1 ∷ []) $ fsplit ! $ keep ! (0 ∷ []) $ fsplit ! $ pair_out Z LZ ! d.at a y.0.4.0 (λ h words good. move ! (1 ∷ []) $
-    let last = after 4 (code.function).body in let Out : RattleType = option.the_row Loose in
-    slot_cases ! a d.at d.value
+    let last = after 4 (code.function).body in let Out : RattleType = option.the_row RawBox in
+    handle_cases ! a d.at d.value
     (λ null is.
-    suffices ! (Run (both vnull h ∷ [])) (at_words 𝓤 Run (λ i. (words ∙ (λ j. both (ptr_val (is j)) h ∷ [])) i ++ [])) $
+    suffices ! (Run (both vnull h ∷ [])) (at_values 𝓤 Run (λ i. (words ∙ (λ j. both (ptr_val (is j)) h ∷ [])) i ++ [])) $
     -- [the allocator; the locals]
     enter ! _ _ _ _ _ $ alloc_all ! (λ l. pass_all ! refl (both_good Z null_ptr h good, tt) $
     sets ! (of_opd ! (get_in ! (fld ! refl (stop !)) (sub ! 0 refl (whole !)))) refl (Ptr-Good null_ptr) $
@@ -56,12 +56,12 @@ unpack_spec 𝓤 𝓛 𝓜 𝓡 wired =
     sets ! (of_opd ! (get ! refl)) refl (tt, (record { fits = lit< tt }, tt)) $
     returns ! (look_at ! 0 refl) $ free_all ! refl $ keep ! [] $
     suffices ! _ (ends_at 𝓛 f.ended stayed c y (live 0 vnil) None (tt, tt) (tt, tt)) $ says ! null $
-    use0 𝓛 (‵ (Out.own_val None (live 0 vnil ∷ []))) (none_of 𝓛 Loose) $
+    use0 𝓛 (‵ (Out.own_val None (live 0 vnil ∷ []))) (none_of 𝓛 RawBox) $
     nothing ! $ nothing ! $ fjoin ! $ nothing ! $ group ! 3 $ done !)
     (λ wrong. absurd wrong)))
     (λ x b o there is tests.
     let p = block_ptr b o in let typed = both_good Z p h good in
-    suffices ! (Run (both (vptr b o) h ∷ [])) (at_words 𝓤 Run (λ i. (words ∙ (λ j. both (ptr_val (is j)) h ∷ [])) i ++ [])) $
+    suffices ! (Run (both (vptr b o) h ∷ [])) (at_values 𝓤 Run (λ i. (words ∙ (λ j. both (ptr_val (is j)) h ∷ [])) i ++ [])) $
     -- [the box's memory; the allocator; the locals]
     enter ! _ _ _ _ _ $ alloc_all ! (λ l. pass_all ! refl (typed, tt) $
     sets ! (of_opd ! (get_in ! (fld ! refl (stop !)) (sub ! 0 refl (whole !)))) refl (Ptr-Good p) $
@@ -75,8 +75,8 @@ unpack_spec 𝓤 𝓛 𝓜 𝓡 wired =
     exec ! 𝓣.C 𝓣.Λ (env code.Mir.locals l) last (at_ret _ (W.post y)) $
     sets ! (of_opd ! (get ! refl)) refl good_v $
     move ! (1 ∷ 0 ∷ []) $ pair_in Z LZ ! p a h $ fjoin ! $
-    let d' : Loose.Denot = record { at = p; alloc = a; value = x } in
-    use1 𝓛 (‵ (Out.own_val (Some d') (v ∷ []))) (Some-of 𝓛 Loose d' made) $
+    let d' : RawBox.Denot = record { at = p; alloc = a; value = x } in
+    use1 𝓛 (‵ (Out.own_val (Some d') (v ∷ []))) (Some-of 𝓛 RawBox d' made) $
     returns ! (look_at ! 0 refl) $ free_all ! refl $
     suffices ! _ (ends_at 𝓛 f.ended stayed c y v (Some d') (tt, tt) (tt, tt)) $ says ! there $
     nothing ! $ nothing ! $ fjoin ! $ nothing ! $ group ! 3 $ done !)))))

@@ -2,12 +2,12 @@ use Rattle.std.proofs.Common.{◌<◌, ◌≡◌, ◌+◌, ◌-◌, length, arit
 use Rattle.std.specs.Global.{Vec}
 use Rattle.gv_types.specs.declared.mapping.Mapping.{Mapping}
 use Rattle.gv_chunks.specs.Inside.{items_of}
-use Rattle.gv_chunks.proofs.PartsLemmas.{some_of}
+use Rattle.gv_chunks.proofs.StoreLemmas.{some_of}
 use Rattle.gv_chunks.proofs.chunk_list.ChunkList.piece_at.Goals as goal
 
 pub returns-clause-some : goal.returns-clause-some
 returns-clause-some c inside =
-    let p = c.self.inside.parts in
+    let p = c.self.inside.store in
     let list = c.self.invariant.list in
     let below : c.args.spot.index < length (items_of p) = omega (arith, c.if-spot-self.false, list.held) in
     let some : 0 < length p.chunks.items = list.some (omega (arith, c.if-spot-self.false, list.fits)) in

@@ -1,7 +1,7 @@
 use Rattle.std.proofs.Common.{◌≡◌, ◌/◌, ◌<◌, ℕ, List, length, take, slice_index_or, arith, refl, ap, sym, ◌∙◌}
 use Rattle.std.proofs.lemmas.List.{get_or-take}
 use Rattle.gv_chunks.specs.Starts.{StartsState}
-use Rattle.gv_chunks.proofs.PartsLemmas.{more_numbers}
+use Rattle.gv_chunks.proofs.StoreLemmas.{more_numbers}
 use Rattle.gv_chunks.proofs.SumLemmas.{length-sums, sums_same}
 use Rattle.gv_chunks.proofs.starts.Starts.pad.Goals as goal
 

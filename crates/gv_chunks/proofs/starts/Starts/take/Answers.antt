@@ -65,6 +65,6 @@ returns-clause-behind c = λ k d low high.
     let size : length now ≡ length numbers = c.mend_lasts.ensures.len ∙ (ap length is_row ∙ row_size) in
     let back : take c.self.inside.numbers.len (now ++ drop (length now) row) ≡ now = take_at now (drop (length now) row) c.self.inside.numbers.len (omega (arith, size, c.self.inside.numbers.ok)) in
     let below : k + 1 < length numbers = omega (arith, high, c.requires.within, ap (λ (s : StartsState). length s.numbers) c.self.view_is, length-sums numbers bases) in
-    let told = rw (is_row, c.deref.ensures.value) at (c.mend_lasts.ensures.told k 0 low (omega (arith, high))) in
+    let same_sum = rw (is_row, c.deref.ensures.value) at (c.mend_lasts.ensures.same_sum k 0 low (omega (arith, high))) in
     let moved : slice_index_or row k 0 ≡ slice_index_or numbers (k + 1) 0 = rw c.deref_mut.ensures.value at (c.take_entry.ensures.behind k 0 low high) in
-    rw (row_back, back, ← c.self.view_is) (sums_told numbers bases now k (k + 1) d (omega (arith, below, size)) (omega (arith, below)) (rw moved at told))
+    rw (row_back, back, ← c.self.view_is) (sums_told numbers bases now k (k + 1) d (omega (arith, below, size)) (omega (arith, below)) (rw moved at same_sum))

@@ -7,7 +7,7 @@ use Rattle.gv_journal.specs.History.{kept_by}
 use Rattle.gv_journal.specs.declared.item.Item.{Item}
 use Rattle.gv_journal.proofs.Lists.{last_first}
 use Rattle.gv_space.proofs.ReleasedLemmas.{released-none}
-use Rattle.gv_journal.proofs.Histories.{held_keep, kept_without, released_without}
+use Rattle.gv_journal.proofs.KeptMappings.{held_keep, kept_without, released_without}
 use Rattle.gv_journal.proofs.item_store.ItemStore.close.Goals as goal
 
 pub loop-undos-init : goal.loop-undos-init

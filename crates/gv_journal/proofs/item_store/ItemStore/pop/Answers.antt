@@ -4,7 +4,7 @@ use Rattle.gv_journal.specs.declared.item.Item.{Item}
 use Rattle.std.specs.List.{All}
 use Rattle.std.proofs.lemmas.List.{take-append-le, take_at}
 use Rattle.gv_journal.specs.Reach.{AreReaches}
-use Rattle.gv_journal.proofs.Beside.{same_reaches, reaches_cut}
+use Rattle.gv_journal.proofs.ColumnsMatchItems.{same_reaches, reaches_cut}
 use Rattle.gv_journal.proofs.ItemStores.{notes_left}
 use Rattle.gv_journal.proofs.item_store.ItemStore.pop.Goals as goal
 

@@ -5,7 +5,7 @@ use Rattle.gv_types.specs.declared.operation.PageOp.{PageOp}
 use Rattle.gv_journal.specs.ItemStore.{IsSpent}
 use Rattle.gv_journal.specs.Reach.{extent_of, regions_of, least_page, past_page}
 use Rattle.gv_journal.specs.declared.item.Item.{Item}
-use Rattle.gv_journal.proofs.Beside.{same_reaches, reaches_pushed}
+use Rattle.gv_journal.proofs.ColumnsMatchItems.{same_reaches, reaches_pushed}
 use Rattle.gv_journal.proofs.item_store.ItemStore.push.Goals as goal
 
 pub invariant_of-self : goal.invariant_of-self

@@ -4,7 +4,7 @@ use Rattle.std.proofs.lemmas.List.{length-take-le, length-drop, drop-drop}
 use Rattle.std.proofs.lemmas.List.Elements.{All-append}
 use Rattle.gv_journal.specs.ItemStore.{ItemStoreState, IsSpent}
 use Rattle.gv_journal.specs.declared.item.Item.{Item}
-use Rattle.gv_journal.proofs.Beside.{same_reaches, reaches_passed}
+use Rattle.gv_journal.proofs.ColumnsMatchItems.{same_reaches, reaches_passed}
 use Rattle.gv_journal.proofs.ItemStores.{settled_items, items_written}
 use Rattle.gv_journal.proofs.item_store.ItemStore.settle.Goals as goal
 

@@ -3,7 +3,7 @@ use Rattle.gv_types.specs.Page.{PAGES}
 use Rattle.gv_types.specs.declared.mapping.Entry.{Entry}
 use Rattle.gv_journal.specs.History.{base}
 use Rattle.gv_journal.specs.Items.{JournalState, entries, next, is_withdrawn}
-use Rattle.gv_journal.proofs.Based.{IsQuiet, Goes, one_goes, none_older, all_quiet, base_past}
+use Rattle.gv_journal.proofs.BaseOfPage.{IsQuiet, Goes, one_goes, none_older, all_quiet, base_past}
 use Rattle.gv_journal.proofs.journal.Journal.base_at.Goals as goal
 
 pub returns-then-page-ge-SPACE_PAGES : goal.returns-then-page-ge-SPACE_PAGES

@@ -1,6 +1,6 @@
 use Rattle.std.proofs.Common.{◌-◌, ◌≤◌, drop}
 use Rattle.gv_journal.specs.Items.{entries, next, is_withdrawn}
-use Rattle.gv_journal.proofs.Based.{IsQuiet}
+use Rattle.gv_journal.proofs.BaseOfPage.{IsQuiet}
 use Rattle.gv_journal.proofs.journal.Journal.base_at.Given as goal
 
 abbrev pub invariant-loop-number : goal.invariant-loop-number

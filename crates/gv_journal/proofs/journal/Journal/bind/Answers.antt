@@ -2,18 +2,18 @@ use Rattle.std.proofs.Common.{◌≡◌, ℕ, Option, List, [], ◌∷◌, ◌++
 use Rattle.gv_types.specs.declared.operation.Op.{Op}
 use Rattle.gv_types.specs.declared.operation.PageOp.{PageOp}
 use Rattle.gv_journal.specs.Items.{JournalState}
-use Rattle.gv_journal.specs.State.{FitsSpace}
+use Rattle.gv_journal.specs.Fits.{FitsSpace}
 use Rattle.gv_journal.specs.Applying.{after_all, all_do}
 use Rattle.gv_journal.specs.Inside.{NameOlder, NameOnce}
 use Rattle.gv_journal.specs.Notes.{notes_of}
 use Rattle.gv_journal.specs.Verdict.{full_fault}
 use Rattle.gv_journal.proofs.Lists.{last_first}
-use Rattle.gv_journal.proofs.Noting.{notes_bound}
+use Rattle.gv_journal.proofs.NotesUpdated.{notes_bound}
 use Rattle.gv_journal.specs.Items.{numbered, entries}
 use Rattle.gv_journal.specs.declared.item.Item.{Item}
 use Rattle.gv_journal.proofs.Changing.{list_applied}
 use Rattle.gv_journal.proofs.Bindings.{bound, fits_bound}
-use Rattle.gv_journal.proofs.Held.{journaled, one_more, back_one_more, fits_room, number_left}
+use Rattle.gv_journal.proofs.HeldItems.{journaled, one_more, back_one_more, fits_room, number_left}
 use Rattle.gv_journal.proofs.journal.Journal.bind.Goals as goal
 
 abbrev item_of : goal.After-push → Item

@@ -7,8 +7,8 @@ use Rattle.gv_journal.specs.Items.{JournalState, entries, is_withdrawn, done_by}
 use Rattle.gv_journal.specs.Notes.{notes_of, TellGone}
 use Rattle.gv_journal.specs.Reach.{IsReachOf}
 use Rattle.gv_journal.specs.Withdrawing.{touched_fault}
-use Rattle.gv_journal.proofs.Held.{item_store_items}
-use Rattle.gv_journal.proofs.Founds.{found_withdrawn, found_touched, own_note, later_gone}
+use Rattle.gv_journal.proofs.HeldItems.{item_store_items}
+use Rattle.gv_journal.proofs.FoundItems.{found_withdrawn, found_touched, own_note, later_gone}
 use Rattle.gv_journal.proofs.journal.Journal.find_entry.Goals as goal
 
 pub returns-then-is_withdrawn-clause-refused : goal.returns-then-is_withdrawn-clause-refused

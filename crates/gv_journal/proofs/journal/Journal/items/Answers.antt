@@ -1,6 +1,6 @@
 use Rattle.std.proofs.Common.{reverse, subst}
 use Rattle.gv_journal.specs.Items.{JournalState, entries}
-use Rattle.gv_journal.specs.Saying.{WereLive}
+use Rattle.gv_journal.specs.Covering.{WereLive}
 use Rattle.gv_journal.proofs.Bindings.{were_live}
 use Rattle.gv_journal.proofs.journal.Journal.items.Goals as goal
 

@@ -1,8 +1,8 @@
 use Rattle.std.proofs.Common.{◌≡◌, ℕ, ◌+◌, ◌-◌, get_or, arith, reverse, ◌∙◌, ap}
 use Rattle.gv_journal.specs.Items.{JournalState, entries}
 use Rattle.gv_journal.specs.Notes.{notes_of}
-use Rattle.gv_journal.proofs.Held.{item_store_items}
-use Rattle.gv_journal.proofs.Founds.{own_note}
+use Rattle.gv_journal.proofs.HeldItems.{item_store_items}
+use Rattle.gv_journal.proofs.FoundItems.{own_note}
 use Rattle.gv_journal.proofs.journal.Journal.noted.Goals as goal
 
 pub returns-clause-withdrawn : goal.returns-clause-withdrawn

@@ -9,10 +9,10 @@ use Rattle.gv_journal.specs.Notes.{notes_of, cleared}
 use Rattle.gv_journal.specs.Verdict.{numbers}
 use Rattle.std.proofs.lemmas.List.{length-reverse}
 use Rattle.gv_journal.proofs.Lists.{last_first}
-use Rattle.gv_journal.proofs.Held.{journaled, one_less, back_one_more}
-use Rattle.gv_journal.proofs.Histories.{fits_rewound, kept_without}
+use Rattle.gv_journal.proofs.HeldItems.{journaled, one_less, back_one_more}
+use Rattle.gv_journal.proofs.KeptMappings.{fits_rewound, kept_without}
 use Rattle.gv_journal.proofs.Undoings.{reverted_by-mappings}
-use Rattle.gv_journal.proofs.Noting.{names_within, notes_rewound}
+use Rattle.gv_journal.proofs.NotesUpdated.{names_within, notes_rewound}
 use Rattle.gv_journal.proofs.journal.Journal.rewind.Goals as goal
 
 pub take-requires : goal.take-requires

@@ -7,7 +7,7 @@ use Rattle.gv_journal.specs.Notes.{notes_of}
 use Rattle.gv_journal.specs.declared.item.Item.{Item}
 use Rattle.gv_journal.proofs.NotesSettled.{once_settled, notes_settled, early_older}
 use Rattle.gv_journal.specs.History.{kept_by}
-use Rattle.gv_journal.specs.State.{FitsSpace}
+use Rattle.gv_journal.specs.Fits.{FitsSpace}
 use Rattle.gv_journal.specs.Settling.{IsSettled}
 use Rattle.gv_journal.proofs.SettledViews.{NoneCross}
 use Rattle.gv_journal.proofs.Settlings.{count_is, names_later, earlier_kept, old_journal, new_journal, is_settled, fits_settled, left_is, none_left}

@@ -1,17 +1,17 @@
 use Rattle.std.proofs.Common.{ℕ, Option, ◌≤◌, set, Some, false, ◌≡◌, ◌+◌, ◌<◌, List, [], ◌∷◌, ◌++◌, length, reverse, None, sym, ◌∙◌, ap, subst, arith, rules}
 use Rattle.gv_journal.specs.Items.{JournalState, numbered}
-use Rattle.gv_journal.specs.State.{FitsSpace}
+use Rattle.gv_journal.specs.Fits.{FitsSpace}
 use Rattle.gv_journal.specs.Verdict.{full_fault}
 use Rattle.gv_journal.specs.Inside.{NameOlder, NameOnce}
 use Rattle.gv_journal.specs.declared.item.Item.{Item}
 use Rattle.gv_journal.specs.Items.{is_withdrawn, entries}
 use Rattle.gv_journal.specs.Withdrawing.{item_at}
-use Rattle.gv_journal.proofs.Noted.{length-notes}
-use Rattle.gv_journal.proofs.Entries.{found_live}
+use Rattle.gv_journal.proofs.NotesByIndex.{length-notes}
+use Rattle.gv_journal.proofs.WithdrawableItem.{found_live}
 use Rattle.gv_journal.specs.Notes.{notes_of}
 use Rattle.gv_journal.proofs.Lists.{last_first}
-use Rattle.gv_journal.proofs.Noting.{notes_withdrawn}
-use Rattle.gv_journal.proofs.Held.{journaled, one_more, back_one_more, found_at, fits_room, number_left}
+use Rattle.gv_journal.proofs.NotesUpdated.{notes_withdrawn}
+use Rattle.gv_journal.proofs.HeldItems.{journaled, one_more, back_one_more, found_at, fits_room, number_left}
 use Rattle.gv_journal.proofs.Withdrawals.{withdrawal}
 use Rattle.gv_journal.proofs.Withdrawn.{kept_here, fits_withdrawn, is_withdrawn_there, grown_there, passes, refused_there}
 use Rattle.gv_journal.proofs.journal.Journal.withdraw.Goals as goal

@@ -2,7 +2,7 @@ use Rattle.std.proofs.Common.{◌≤◌, ◌-◌, drop, sym, ◌∙◌, arith}
 use Rattle.std.proofs.lemmas.List.{length-drop, length-take-le}
 use Rattle.std.proofs.lemmas.List.Elements.{All-take, All-drop}
 use Rattle.gv_types.specs.Page.{PAGES}
-use Rattle.gv_journal.proofs.Beside.{reaches_between}
+use Rattle.gv_journal.proofs.ColumnsMatchItems.{reaches_between}
 use Rattle.gv_journal.proofs.part.Part.between.Goals as goal
 
 pub invariant_of-result : goal.invariant_of-result

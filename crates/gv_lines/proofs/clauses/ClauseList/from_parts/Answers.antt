@@ -1,5 +1,5 @@
 use Rattle.std.proofs.Common.{◌∙◌, Some, sym, ap}
-use Rattle.gv_lines.proofs.Queues.{read_to_other, read_to_queue, read_to_second}
+use Rattle.gv_lines.proofs.AtMostOneQueue.{read_to_other, read_to_queue, read_to_second}
 use Rattle.gv_lines.proofs.clauses.ClauseList.from_parts.Goals as goal
 
 pub returns-then-has_queue : goal.returns-then-has_queue

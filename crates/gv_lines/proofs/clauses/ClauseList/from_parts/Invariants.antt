@@ -1,5 +1,5 @@
 use Rattle.std.proofs.Common.{length}
-use Rattle.gv_lines.proofs.Queues.{IsReadTo}
+use Rattle.gv_lines.proofs.AtMostOneQueue.{IsReadTo}
 use Rattle.gv_lines.proofs.clauses.ClauseList.from_parts.Given as goal
 
 abbrev pub invariant-loop-words : goal.invariant-loop-words

@@ -1,6 +1,6 @@
 use Rattle.std.proofs.Common.{◌≡◌, ◌∙◌, ◌∷◌, ◌++◌, [], ap, sym, Some}
 use Rattle.gv_lines.specs.Job.{access_of}
-use Rattle.gv_lines.proofs.Lists.{read_behind, read_more}
+use Rattle.gv_lines.proofs.ListParsing.{read_behind, read_more}
 use Rattle.gv_lines.proofs.job.AccessList.from_parts.Goals as goal
 
 pub loop-words-preserved : goal.loop-words-preserved

@@ -1,7 +1,7 @@
 use Rattle.std.proofs.Common.{◌≡◌, List, length}
 use Rattle.gv_lines.specs.Job.{access_of, accesses_read}
 use Rattle.gv_lines.specs.declared.job.Access.{Access}
-use Rattle.gv_lines.proofs.Lists.{read_behind}
+use Rattle.gv_lines.proofs.ListParsing.{read_behind}
 use Rattle.gv_lines.proofs.job.AccessList.from_parts.Given as goal
 
 abbrev pub invariant-loop-words : goal.invariant-loop-words

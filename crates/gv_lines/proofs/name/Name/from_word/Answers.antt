@@ -1,5 +1,5 @@
 use Rattle.std.proofs.Common.{rules}
-use Rattle.gv_lines.proofs.Names.{is_name-text}
+use Rattle.gv_lines.proofs.NameText.{is_name-text}
 use Rattle.gv_lines.proofs.name.Name.from_word.Goals as goal
 
 pub returns-in_default : goal.returns-in_default

@@ -1,4 +1,4 @@
-use Rattle.gv_lines.proofs.Cuts.{one_clause}
+use Rattle.gv_lines.proofs.FirstSeparator.{one_clause}
 use Rattle.gv_lines.proofs.words.Words.are_one_clause.Goals as goal
 
 pub returns : goal.returns

@@ -1,5 +1,5 @@
 use Rattle.std.proofs.Common.{nat_eq, refl}
-use Rattle.gv_lines.proofs.Cuts.{none_left}
+use Rattle.gv_lines.proofs.FirstSeparator.{none_left}
 use Rattle.gv_lines.proofs.words.Words.is_done.Goals as goal
 
 pub returns : goal.returns

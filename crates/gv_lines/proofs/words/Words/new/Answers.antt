@@ -1,4 +1,4 @@
-use Rattle.gv_lines.proofs.Cuts.{words_all}
+use Rattle.gv_lines.proofs.FirstSeparator.{words_all}
 use Rattle.gv_lines.proofs.words.Words.new.Goals as goal
 
 pub returns : goal.returns

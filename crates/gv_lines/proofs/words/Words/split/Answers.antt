@@ -1,7 +1,7 @@
 use Rattle.std.proofs.Common.{◌≡◌, ◌∙◌, true, false, arith, rules, length, ap, sym}
 use Rattle.std.proofs.lemmas.List.{length-take, length-append}
 use Rattle.gv_lines.specs.Words.{words, is_separator, clauses}
-use Rattle.gv_lines.proofs.Cuts.{cut_more, cut_found, cut_end}
+use Rattle.gv_lines.proofs.FirstSeparator.{cut_more, cut_found, cut_end}
 use Rattle.gv_lines.proofs.words.Words.split.Goals as goal
 
 pub returns-then-eq : goal.returns-then-eq

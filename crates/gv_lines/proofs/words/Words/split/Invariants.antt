@@ -1,6 +1,6 @@
 use Rattle.std.proofs.Common.{length, take}
 use Rattle.gv_lines.specs.Words.{words}
-use Rattle.gv_lines.proofs.Cuts.{IsCut}
+use Rattle.gv_lines.proofs.FirstSeparator.{IsCut}
 use Rattle.gv_lines.proofs.words.Words.split.Given as goal
 
 abbrev pub invariant-loop-word : goal.invariant-loop-word

@@ -2,12 +2,12 @@ use Rattle.std.proofs.Common.{rules, ◌≡◌, ◌<◌, ◌∙◌, ℕ, Option,
 use denote.Param.Send.{arg_sync, param_sync}
 use Rattle.gv_sync.specs.Seats.{SeatState}
 use Rattle.gv_queues.specs.Ending.{IsOfQueueBelow}
-use Rattle.gv_queues.specs.Sharing.{ComesBack, after_splits}
+use Rattle.gv_queues.specs.SeatSplits.{ComesBack, after_splits}
 use Rattle.gv_queues.specs.Submitting.{AreOpened, SubmitterState}
 use Rattle.gv_queues.specs.declared.finishing.QueuesFault.{QueuesFault}
 use Rattle.gv_queues.specs.declared.finishing.QueuesFault.TheVariants.{Disagree}
 use Rattle.gv_queues.proofs.QueueEnds.{counted_ends, if_ok, if_ok_both}
-use Rattle.gv_queues.proofs.Sends.{lock_sync}
+use Rattle.gv_queues.proofs.LockIsSync.{lock_sync}
 use Rattle.gv_queues.proofs.queues.Queues.run_queues.Goals as goal
 
 both : {A B : Type 0} → A → B → A × B

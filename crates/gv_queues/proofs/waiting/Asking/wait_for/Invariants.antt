@@ -1,5 +1,5 @@
 use Rattle.gv_sync.specs.Seats.{IsSeatOf}
-use Rattle.gv_sync.specs.Turns.{HasLooked}
+use Rattle.gv_sync.specs.SeatSteps.{HasLooked}
 use Rattle.gv_queues.proofs.waiting.Asking.wait_for.Given as goal
 
 abbrev pub invariant-loop : goal.invariant-loop

@@ -1,6 +1,6 @@
 use Rattle.std.proofs.Common.{◌≤◌, length, take, vec_capacity}
 use Rattle.gv_sync.specs.Seats.{IsSeatOf}
-use Rattle.gv_sync.specs.Turns.{HasLooked}
+use Rattle.gv_sync.specs.SeatSteps.{HasLooked}
 use Rattle.gv_queues.specs.Paying.{AreReached, WereReached}
 use Rattle.gv_queues.proofs.waiting.Asking.wait_for_all.Given as goal
 

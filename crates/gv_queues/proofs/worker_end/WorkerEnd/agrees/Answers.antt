@@ -5,7 +5,7 @@ use Rattle.gv_vm.specs.Outcomes.{told_to}
 use Rattle.gv_vm.specs.State.{forgotten_of}
 use Rattle.gv_vm.specs.declared.outcome.Outcome.{Outcome}
 use Rattle.gv_queues.specs.Working.{WorkerEndState}
-use Rattle.gv_queues.proofs.Outcomes.{outcome_decides}
+use Rattle.gv_queues.proofs.OutcomeEquality.{outcome_decides}
 use Rattle.gv_queues.proofs.worker_end.WorkerEnd.agrees.Goals as goal
 
 pub returns : goal.returns

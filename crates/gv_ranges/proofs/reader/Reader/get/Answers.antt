@@ -1,6 +1,6 @@
 use Rattle.std.proofs.Common.{arith, ◌≡◌, ◌+◌, ◌-◌, ◌%◌, ◌≤◌, ℕ, length, take, drop, get_or, ap, sym, ◌∙◌}
 use Rattle.std.proofs.lemmas.List.{get_or_default}
-use Rattle.gv_ranges.proofs.PartLemmas.{piece-within, piece-at}
+use Rattle.gv_ranges.proofs.TakeDropLemmas.{piece-within, piece-at}
 use Rattle.gv_ranges.proofs.reader.Reader.get.Goals as goal
 
 pub returns-then-inside-self : goal.returns-then-inside-self

@@ -1,6 +1,6 @@
 use Rattle.std.proofs.Common.{[], true, false, sym, ◌∙◌}
 use Rattle.gv_session.proofs.AnswerLemmas.{then_ok}
-use Rattle.gv_serve.proofs.Fronts.{flushed, ends_none, ends_bad}
+use Rattle.gv_serve.proofs.AnsweredLines.{flushed, ends_none, ends_bad}
 use Rattle.gv_serve.proofs.dialogue.Dialogue.end.Goals as goal
 use Rattle.gv_serve.proofs.dialogue.Dialogue.end.Goals.{then-not-is_empty+in_ok-write_bad, else-not-is_empty}
 

@@ -1,7 +1,7 @@
 use Rattle.std.proofs.Common.{◌≡◌, ◌∙◌, ◌++◌, ◌<◌, ◌≤◌, [], length, take, rules, arith, refl, inl, inr, length-append, length-take}
 use Rattle.std.proofs.KnownBytes.{Appends-trans, Consumes-nil, Consumes-trans}
 use Rattle.gv_serve.proofs.AsRun.{as_run}
-use Rattle.gv_serve.proofs.Fronts.{heard_nothing, nothing_pending, wrote_more, dialogue_ends, consumed_none}
+use Rattle.gv_serve.proofs.AnsweredLines.{heard_nothing, nothing_pending, wrote_more, dialogue_ends, consumed_none}
 use Rattle.gv_serve.specs.Dialogue.{most_reads}
 use Rattle.gv_serve.proofs.dialogue.Dialogue.hold.Goals as goal
 
@@ -22,7 +22,7 @@ loop-done-preserved g c =
     let inv = c.loop-done.invariant in
     let wrote = c.in_ok-flush.ensures in
     let read = c.in_ok-count.ensures in
-    let heard = c.in_ok-hear.ensures.heard in
+    let heard = c.in_ok-answer_lines.ensures.heard in
     let given = take c.in_ok-count.count c.read.new.buffer in
     record {
       input = inv.input ++ given;
@@ -32,7 +32,7 @@ loop-done-preserved g c =
       so_far = Consumes-trans _ _ _ _ _ inv.so_far read.bytes.0;
       wrote = wrote_more _ _ _ _ inv.text _ heard.0 inv.wrote wrote.ok wrote.empty heard.2;
       read_flag = read.unset ∙ inv.read_flag;
-      write_flag = c.in_ok-hear.ensures.unset ∙ wrote.unset ∙ inv.write_flag;
+      write_flag = c.in_ok-answer_lines.ensures.unset ∙ wrote.unset ∙ inv.write_flag;
     }
 
 pub returns-then-count-eq0-clause-text : goal.returns-then-count-eq0-clause-text

@@ -1,13 +1,13 @@
 use Rattle.std.proofs.Common.{◌≡◌, ◌≤◌, List, ℕ, length}
 use Rattle.std.specs.Io.KnownBytes.{Appends, Consumes, append_known}
-use Rattle.gv_serve.specs.Hearing.{HasHeard}
+use Rattle.gv_serve.specs.DialogueProgress.{HasAnswered}
 use Rattle.gv_serve.proofs.dialogue.Dialogue.hold.Given as goal
 
 abbrev pub invariant-loop-done : goal.invariant-loop-done
 invariant-loop-done g l = record {
   input : List ℕ;
   text : List ℕ;
-  heard : HasHeard input text l.self.talk.session l.self.talk.number l.self.partial;
+  heard : HasAnswered input text l.self.talk.session l.self.talk.number l.self.partial;
   each_gave : l.done ≤ length input;
   so_far : Consumes (g.R.Source.remaining l.initial.reader) (g.R.Source.remaining l.reader) input;
   wrote : Appends (g.W.Sink.written l.initial.writer) (append_known (g.W.Sink.written l.writer) l.self.talk.output) text;

@@ -5,7 +5,7 @@ use Rattle.gv_lines.specs.declared.line.Line.TheVariants.{Silent}
 use Rattle.gv_lines.specs.declared.serve_line.ServeLine.TheVariants.{Run}
 use Rattle.gv_session.proofs.AnswerLemmas.{then_ok}
 use Rattle.gv_session.specs.declared.fault.LineFault.{LineFault}
-use Rattle.gv_serve.specs.Dialogue.{others_in, want_reply}
+use Rattle.gv_serve.specs.Dialogue.{others_in, no_memory_reply}
 use Rattle.gv_serve.proofs.talk.Talk.answer.Goals as goal
 
 pub returns-in-Ok-clause-answered : goal.returns-in-Ok-clause-answered
@@ -35,8 +35,8 @@ returns-in-Err-OutOfMemory-clause-answered g c =
     let memory = c.in-Err-OutOfMemory.is ∙ ap (λ (why : LineFault). Err why) c.in-Err-OutOfMemory.field-0-is in
     let says : serve_parsed c.args.line.now ≢ Some (Run Silent) = λ silent. let ok = rw memory at (c.serve_text.ensures.silent silent) in cc in
     then_ok c.push-in-Err-OutOfMemory.result _ _ (λ wrote. (
-      want_reply,
+      no_memory_reply,
       1,
-      inr (inr (record { good = (c.requires, c.serve_text.ensures.memory memory); says = says; left = c.serve_text.ensures.left memory; text_is = refl }, refl)),
+      inr (inr (record { good = (c.requires, c.serve_text.ensures.memory memory); says = says; stopped = c.serve_text.ensures.stopped memory; text_is = refl }, refl)),
       wrote,
     )) c.push-in-Err-OutOfMemory.ensures.ok

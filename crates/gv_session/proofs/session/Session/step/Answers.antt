@@ -1,5 +1,5 @@
 use Rattle.std.proofs.Common.{◌∙◌}
-use Rattle.gv_session.proofs.Numbers.{numbers_after}
+use Rattle.gv_session.proofs.TimelineCount.{numbers_after}
 use Rattle.gv_session.proofs.session.Session.step.Goals as goal
 
 pub invariant_of-self : goal.invariant_of-self

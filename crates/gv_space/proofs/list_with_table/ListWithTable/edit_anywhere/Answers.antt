@@ -1,5 +1,5 @@
 use Rattle.std.proofs.Common.{◌∙◌}
-use Rattle.gv_table.proofs.LikenessLemmas.{tables-gained}
+use Rattle.gv_table.proofs.SameTreeLemmas.{tables-gained}
 use Rattle.gv_space.proofs.list_with_table.ListWithTable.edit_anywhere.Goals as goal
 
 pub returns-clause-tables : goal.returns-clause-tables

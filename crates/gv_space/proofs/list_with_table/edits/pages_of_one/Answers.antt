@@ -3,7 +3,7 @@ use Rattle.std.proofs.lemmas.Bool.Decides.{nat_tests}
 use Rattle.std.specs.List.{splice}
 use Rattle.gv_types.specs.declared.mapping.Mapping.{Mapping}
 use Rattle.gv_table.specs.Patch.{HasMappingAt}
-use Rattle.gv_space.proofs.HeldAt.{held_piece, held_before, held_behind}
+use Rattle.gv_space.proofs.MappingAt.{held_piece, held_before, held_behind}
 use Rattle.gv_space.proofs.list_with_table.edits.pages_of_one.Goals as goal
 
 pub returns-then-not-is_empty : goal.returns-then-not-is_empty

@@ -3,7 +3,7 @@ use Rattle.gv_types.specs.Operation.{own_mapping}
 use Rattle.gv_ranges.specs.Edit.{restored}
 use Rattle.gv_space.specs.Change.{IsChanged}
 use Rattle.gv_space.specs.Undo.{undo_with}
-use Rattle.gv_space.proofs.Says.{says_after, holds_what_was}
+use Rattle.gv_space.proofs.PageAfterOperation.{says_after, holds_what_was}
 use Rattle.gv_space.proofs.space.Space.apply_pages.Goals as goal
 
 pub returns-clause-says : goal.returns-clause-says

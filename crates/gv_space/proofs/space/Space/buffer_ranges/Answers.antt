@@ -8,7 +8,7 @@ use Rattle.gv_space.specs.Inside.{space_of}
 use Rattle.gv_space.specs.State.{SpaceState}
 use Rattle.gv_buffers.specs.Buffers.{IsLive}
 use Rattle.gv_space.proofs.ByCountLemmas.{live_from_placed}
-use Rattle.gv_space.proofs.PlaceFound.{firsts, places_of}
+use Rattle.gv_space.proofs.FirstPageFound.{firsts, places_of}
 use Rattle.gv_space.proofs.UsesFound.{uses_found, uses_lives}
 use Rattle.gv_space.proofs.space.Space.buffer_ranges.Goals as goal
 
@@ -19,15 +19,15 @@ ranges_of-requires-clause-count c =
     ∙ ap (λ (t : SpaceState). count_of c.args.id t.mappings) c.self.view_is
     ∙ ap (λ (ms : List Mapping). count_of c.args.id ms) (sym c.list.ensures.value)
 
-pub ranges_of-requires-clause-places : goal.ranges_of-requires-clause-places
-ranges_of-requires-clause-places c = λ known.
+pub ranges_of-requires-clause-first_pages : goal.ranges_of-requires-clause-first_pages
+ranges_of-requires-clause-first_pages c = λ known.
     let s : SpaceState = space_of c.self.inside in
     let counted : c.in-Some.count ≡ count_of c.args.id s.mappings =
     uses_found s.buffers c.args.id s.mappings c.in-Some.count c.self.invariant.space.used (sym c.uses.ensures.value ∙ c.in-Some.is) in
     let lives : IsLive s.buffers c.args.id = uses_lives s.buffers c.args.id c.in-Some.count (sym c.uses.ensures.value ∙ c.in-Some.is) in
-    let are : c.places-places.result.now ≡ firsts c.args.id s.mappings =
-    places_of s.buffers c.self.inside.mapped.names c.args.id s.mappings c.self.inside.places c.places-places.result.now c.in-Some.count c.self.invariant.named lives
-    (live_from_placed s.area s.buffers s.mappings c.self.invariant.space.placed) c.self.invariant.places c.places-places.ensures counted known in
+    let are : c.first_pages-first_pages.result.now ≡ firsts c.args.id s.mappings =
+    places_of s.buffers c.self.inside.mapped.names c.args.id s.mappings c.self.inside.first_pages c.first_pages-first_pages.result.now c.in-Some.count c.self.invariant.named lives
+    (live_from_placed s.area s.buffers s.mappings c.self.invariant.space.valid) c.self.invariant.first_pages c.first_pages-first_pages.ensures counted known in
     are ∙ ap (λ (t : SpaceState). firsts c.args.id t.mappings) c.self.view_is ∙ ap (firsts c.args.id) (sym c.list.ensures.value)
 
 pub returns-in_err-ranges_of-clause-some : goal.returns-in_err-ranges_of-clause-some

@@ -4,9 +4,9 @@ use Rattle.gv_types.specs.declared.mapping.Mapping.{Mapping}
 use Rattle.gv_table.specs.Table.{IsTree, gained_by}
 use Rattle.gv_table.specs.declared.page_table.PageTable.{PageTable}
 use Rattle.gv_buffers.specs.Buffers.{BuffersState, IsLive}
-use Rattle.gv_space.specs.Mapped.{AreLiveNamed}
-use Rattle.gv_space.specs.Placed.{ArePlaces}
-use Rattle.gv_space.proofs.PlaceLists.{rows_for, rows_kept, room_for_places, places_spliced}
+use Rattle.gv_space.specs.ListWithTable.{AreLiveNamed}
+use Rattle.gv_space.specs.ListFirstPages.{AreFirstPages}
+use Rattle.gv_space.proofs.FirstPageLists.{rows_for, rows_kept, room_for_first_pages, first_pages_spliced}
 use Rattle.gv_space.specs.State.{SpaceState, most_kept}
 use Rattle.gv_space.specs.Counts.{by_count, more_used, less_used, more_kept}
 use Rattle.gv_space.specs.Undo.{OpUndoState}
@@ -14,7 +14,7 @@ use Rattle.gv_space.specs.Change.{IsChanged}
 use Rattle.gv_space.specs.Ready.{IsReady}
 use Rattle.gv_space.specs.Inside.{space_of}
 use Rattle.gv_space.proofs.ByCountLemmas.{live_from_placed}
-use Rattle.gv_space.proofs.Rooms.{room_to_keep, room_to_count, run_is_counted, length-run-le-most_kept}
+use Rattle.gv_space.proofs.RoomInCounts.{room_to_keep, room_to_count, run_is_counted, length-run-le-most_kept}
 use Rattle.gv_space.proofs.LiveNames.{named_placed}
 use Rattle.gv_space.proofs.Commits.{after, after_laid_out, after_alike, after_pieces, after_placed, lived_after, taken_placed, pieces_placed, pieces_are_few, state_after, space_after, change_is, change_of}
 use Rattle.gv_space.proofs.space.Space.commit.Goals as goal
@@ -45,7 +45,7 @@ edit-requires-clause-named_inside c =
     let s : SpaceState = space_of c.self.inside in
     let ready : IsReady c.args.inside.now s c.args.range c.args.spot.index c.args.taken.now c.args.pieces.now =
     subst (λ (t : SpaceState). IsReady c.args.inside.now t c.args.range c.args.spot.index c.args.taken.now c.args.pieces.now) (sym c.self.view_is) c.requires in
-    named_placed s.area s.buffers c.self.inside.mapped.names c.args.inside.now c.self.invariant.space.buffers c.self.invariant.named ready.placed
+    named_placed s.area s.buffers c.self.inside.mapped.names c.args.inside.now c.self.invariant.space.buffers c.self.invariant.named ready.valid
 
 pub edit-requires-clause-named : goal.edit-requires-clause-named
 edit-requires-clause-named c =
@@ -60,7 +60,7 @@ move_counts-requires-clause-rows c =
     let s : SpaceState = space_of c.self.inside in
     let ready : IsReady c.args.inside.now s c.args.range c.args.spot.index c.args.taken.now c.args.pieces.now =
     subst (λ (t : SpaceState). IsReady c.args.inside.now t c.args.range c.args.spot.index c.args.taken.now c.args.pieces.now) (sym c.self.view_is) c.requires in
-    rows_for s.buffers (length c.self.inside.places) c.args.pieces.now c.self.invariant.rows
+    rows_for s.buffers (length c.self.inside.first_pages) c.args.pieces.now c.self.invariant.rows
     (live_from_placed s.area s.buffers c.args.pieces.now (pieces_placed c.args.inside.now s c.args.range c.args.spot.index c.args.taken.now c.args.pieces.now c.self.invariant.space ready))
 
 pub move_counts-requires-clause-few : goal.move_counts-requires-clause-few
@@ -69,7 +69,7 @@ move_counts-requires-clause-few c =
     let ready : IsReady c.args.inside.now s c.args.range c.args.spot.index c.args.taken.now c.args.pieces.now =
     subst (λ (t : SpaceState). IsReady c.args.inside.now t c.args.range c.args.spot.index c.args.taken.now c.args.pieces.now) (sym c.self.view_is) c.requires in
     let few : length c.args.pieces.now ≤ most_kept = omega (arith, pieces_are_few c.args.inside.now s c.args.range c.args.spot.index c.args.taken.now c.args.pieces.now c.self.invariant.space ready) in
-    room_for_places s c.self.inside.places c.args.pieces.now c.self.invariant.space few c.self.invariant.places
+    room_for_first_pages s c.self.inside.first_pages c.args.pieces.now c.self.invariant.space few c.self.invariant.first_pages
 
 pub move_counts-requires-clause-taken : goal.move_counts-requires-clause-taken
 move_counts-requires-clause-taken c =
@@ -120,11 +120,11 @@ invariant_of-self-2 c =
       space = space_after c.args.inside.now s c.args.range c.args.spot.index c.args.taken.now c.args.pieces.now c.self.invariant.space ready new c.edit.new.self.room state;
       named = subst (AreLiveNamed c.move_counts.new.buffers) (sym c.edit.ensures.names)
           (λ id lives. c.self.invariant.named id (lived_after c.args.taken.now c.args.pieces.now s.buffers id (subst (λ (t : BuffersState). IsLive t id) buffers_is lives)));
-      places = subst (λ (ms : List Mapping). ArePlaces ms c.move_counts.new.places) (sym list_is)
-          (places_spliced s.mappings c.args.taken.now c.args.pieces.now c.args.spot.index (length c.args.taken.now) c.self.inside.places c.move_counts.new.places ready.taken_is
+      first_pages = subst (λ (ms : List Mapping). AreFirstPages ms c.move_counts.new.first_pages) (sym list_is)
+          (first_pages_spliced s.mappings c.args.taken.now c.args.pieces.now c.args.spot.index (length c.args.taken.now) c.self.inside.first_pages c.move_counts.new.first_pages ready.taken_is
           c.self.invariant.space.laid_out (after_laid_out c.args.inside.now s c.args.range c.args.spot.index c.args.taken.now c.args.pieces.now c.self.invariant.space ready)
-          c.move_counts.ensures.places c.self.invariant.places);
-      rows = rows_kept s.buffers c.move_counts.new.buffers (length c.self.inside.places) (length c.move_counts.new.places)
+          c.move_counts.ensures.first_pages c.self.invariant.first_pages);
+      rows = rows_kept s.buffers c.move_counts.new.buffers (length c.self.inside.first_pages) (length c.move_counts.new.first_pages)
           (λ id lives. lived_after c.args.taken.now c.args.pieces.now s.buffers id (subst (λ (t : BuffersState). IsLive t id) buffers_is lives)) (omega (arith, c.move_counts.ensures.rows)) c.self.invariant.rows;
     }
 

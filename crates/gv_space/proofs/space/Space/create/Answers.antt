@@ -1,21 +1,21 @@
 use Rattle.gv_types.specs.declared.mapping.BufferId.{BufferId}
 use Rattle.std.proofs.Common.{length, ◌≡◌, arith, sym, subst, ap, ◌∙◌}
 use Rattle.gv_ranges.specs.List.{RangeListState}
-use Rattle.gv_space.specs.Mapped.{list_of}
-use Rattle.gv_space.specs.Placed.{ArePlaces}
-use Rattle.gv_space.proofs.PlaceLists.{places-alike, rows_made}
+use Rattle.gv_space.specs.ListWithTable.{list_of}
+use Rattle.gv_space.specs.ListFirstPages.{AreFirstPages}
+use Rattle.gv_space.proofs.FirstPageLists.{first_pages-alike, rows_made}
 use Rattle.gv_space.specs.State.{SpaceState, AreKept, IsSpace}
 use Rattle.gv_space.specs.Inside.{space_of}
-use Rattle.gv_space.proofs.Names.{named-same}
+use Rattle.gv_space.proofs.TableNames.{named-same}
 use Rattle.gv_space.proofs.LivesLemmas.{AreKept-made}
 use Rattle.gv_space.proofs.LiveNames.{named_placed, apart_placed, named_made}
-use Rattle.gv_space.proofs.Spaces.{IsSpace-made}
+use Rattle.gv_space.proofs.SpaceInvariant.{IsSpace-made}
 use Rattle.gv_space.proofs.space.Space.create.Goals as goal
 
 pub reserve_name-requires-clause-named : goal.reserve_name-requires-clause-named
 reserve_name-requires-clause-named c =
     let s : SpaceState = space_of c.self.inside in
-    named_placed s.area s.buffers c.self.inside.mapped.names s.mappings c.self.invariant.space.buffers c.self.invariant.named c.self.invariant.space.placed
+    named_placed s.area s.buffers c.self.inside.mapped.names s.mappings c.self.invariant.space.buffers c.self.invariant.named c.self.invariant.space.valid
 
 pub name-requires-clause-named : goal.name-requires-clause-named
 name-requires-clause-named c =
@@ -23,13 +23,13 @@ name-requires-clause-named c =
     let list_is : c.reserve_name.new.self.mappings ≡ s.mappings = ap (λ (l : RangeListState). l.mappings) c.reserve_name.ensures.list in
     rw list_is
     (named-same c.self.inside.mapped.names c.reserve_name.new.self.names s.mappings c.reserve_name.ensures.same
-    (named_placed s.area s.buffers c.self.inside.mapped.names s.mappings c.self.invariant.space.buffers c.self.invariant.named c.self.invariant.space.placed))
+    (named_placed s.area s.buffers c.self.inside.mapped.names s.mappings c.self.invariant.space.buffers c.self.invariant.named c.self.invariant.space.valid))
 
 pub name-requires-clause-apart : goal.name-requires-clause-apart
 name-requires-clause-apart c =
     let s : SpaceState = space_of c.self.inside in
     let list_is : c.reserve_name.new.self.mappings ≡ s.mappings = ap (λ (l : RangeListState). l.mappings) c.reserve_name.ensures.list in
-    rw list_is (apart_placed s.area s.buffers c.in-Ok.id.index s.mappings c.in-Ok.ensures.ok.free c.self.invariant.space.placed)
+    rw list_is (apart_placed s.area s.buffers c.in-Ok.id.index s.mappings c.in-Ok.ensures.ok.free c.self.invariant.space.valid)
 
 pub invariant_of-self-in-Ok : goal.invariant_of-self-in-Ok
 invariant_of-self-in-Ok c =
@@ -40,9 +40,9 @@ invariant_of-self-in-Ok c =
           (IsSpace-made s c.create.new.self c.in-Ok.id c.args.pages c.in-Ok.ensures.ok c.in-Ok.ensures.table c.self.invariant.space);
       named = named_made s.buffers c.create.new.self c.in-Ok.id c.args.pages c.reserve_name.new.self.names c.name.new.self.names c.in-Ok.ensures.ok
           (λ id lives. c.reserve_name.ensures.same id.index id (c.self.invariant.named id lives)) c.name.ensures.named c.name.ensures.others;
-      places = subst (λ (l : RangeListState). ArePlaces l.mappings c.reserve.new.self) (sym list_is)
-          (places-alike s.mappings c.self.inside.places c.reserve.new.self c.reserve.ensures.same c.self.invariant.places);
-      rows = rows_made s.buffers c.create.new.self c.in-Ok.id c.args.pages (length c.self.inside.places) (length c.reserve.new.self) c.in-Ok.ensures.ok
+      first_pages = subst (λ (l : RangeListState). AreFirstPages l.mappings c.reserve.new.self) (sym list_is)
+          (first_pages-alike s.mappings c.self.inside.first_pages c.reserve.new.self c.reserve.ensures.same c.self.invariant.first_pages);
+      rows = rows_made s.buffers c.create.new.self c.in-Ok.id c.args.pages (length c.self.inside.first_pages) (length c.reserve.new.self) c.in-Ok.ensures.ok
           (omega (arith, c.in_ok-reserve.ensures.ok, c.next_index-index.ensures.index, ap (λ (i : BufferId). i.index) c.in-Ok.ensures.ok.id_is)) c.reserve.ensures.no_fewer c.self.invariant.rows;
     }
 

@@ -1,4 +1,4 @@
-use Rattle.gv_space.proofs.PlaceLists.{rows_kept}
+use Rattle.gv_space.proofs.FirstPageLists.{rows_kept}
 use Rattle.std.proofs.Common.{arith, length, ◌≡◌, Result, Ok, Err, refl, sym, subst, List, OnOk, OnErr}
 use Rattle.std.specs.Prelude.{IsOk, MatchOption}
 use Rattle.gv_types.specs.declared.fault.Fault.{Fault}
@@ -10,7 +10,7 @@ use Rattle.gv_space.specs.Inside.{space_of}
 use Rattle.gv_space.proofs.FaultLemmas.{no_fault}
 use Rattle.gv_space.proofs.LivesLemmas.{AreKept-destroyed}
 use Rattle.gv_space.proofs.LiveNames.{LivedIn, lived-without}
-use Rattle.gv_space.proofs.Spaces.{IsSpace-destroyed}
+use Rattle.gv_space.proofs.SpaceInvariant.{IsSpace-destroyed}
 use Rattle.gv_space.proofs.space.Space.destroy.Goals as goal
 
 after : {X : Type 0} (r : Result X Fault) (s : SpaceState) (new : BuffersState) (id : BufferId) → IsSpace s → MatchOption (destroy_fault s.buffers id) (IsOk r) (λ f. r ≡ Err f) →
@@ -29,8 +29,8 @@ invariant_of-self c =
     record {
       space = after c.destroy.result s c.destroy.new.self c.args.id c.self.invariant.space c.destroy.ensures.fault c.destroy.ensures.ok c.destroy.ensures.err;
       named = λ id lives. c.self.invariant.named id (lived c.destroy.result s.buffers c.destroy.new.self c.args.id c.destroy.ensures.ok c.destroy.ensures.err id lives);
-      places = c.self.invariant.places;
-      rows = rows_kept s.buffers c.destroy.new.self (length c.self.inside.places) (length c.self.inside.places)
+      first_pages = c.self.invariant.first_pages;
+      rows = rows_kept s.buffers c.destroy.new.self (length c.self.inside.first_pages) (length c.self.inside.first_pages)
           (lived c.destroy.result s.buffers c.destroy.new.self c.args.id c.destroy.ensures.ok c.destroy.ensures.err) (omega arith) c.self.invariant.rows;
     }
 

@@ -1,4 +1,4 @@
-use Rattle.gv_space.proofs.PlaceLists.{rows_kept}
+use Rattle.gv_space.proofs.FirstPageLists.{rows_kept}
 use Rattle.std.proofs.Common.{arith, length, ◌≡◌, ℕ, Result, Ok, Err, sym, subst, List, OnOk, OnErr}
 use Rattle.gv_types.specs.declared.fault.Fault.{Fault}
 use Rattle.gv_types.specs.declared.mapping.BufferId.{BufferId}
@@ -9,7 +9,7 @@ use Rattle.gv_space.specs.State.{SpaceState, AreKept, IsSpace}
 use Rattle.gv_space.specs.Inside.{space_of}
 use Rattle.gv_space.proofs.Jobs.{AreKept-joined, joined_of_users}
 use Rattle.gv_space.proofs.LiveNames.{LivedIn, lived-each}
-use Rattle.gv_space.proofs.Spaces.{IsSpace-joined}
+use Rattle.gv_space.proofs.SpaceInvariant.{IsSpace-joined}
 use Rattle.gv_space.proofs.space.Space.join.Goals as goal
 
 after : {X : Type 0} (r : Result X Fault) (s : SpaceState) (new : BuffersState) (id : BufferId) (job : ℕ) (usage : Usage) → IsSpace s → IsTable new →
@@ -30,8 +30,8 @@ invariant_of-self c =
     record {
       space = after c.join.result s c.join.new.self c.args.id c.args.job c.args.usage c.self.invariant.space c.join.ensures.table c.join.ensures.ok c.join.ensures.err;
       named = λ id lives. c.self.invariant.named id (lived c.join.result s.buffers c.join.new.self c.args.id c.args.job c.args.usage c.join.ensures.ok c.join.ensures.err id lives);
-      places = c.self.invariant.places;
-      rows = rows_kept s.buffers c.join.new.self (length c.self.inside.places) (length c.self.inside.places)
+      first_pages = c.self.invariant.first_pages;
+      rows = rows_kept s.buffers c.join.new.self (length c.self.inside.first_pages) (length c.self.inside.first_pages)
           (lived c.join.result s.buffers c.join.new.self c.args.id c.args.job c.args.usage c.join.ensures.ok c.join.ensures.err) (omega arith) c.self.invariant.rows;
     }
 

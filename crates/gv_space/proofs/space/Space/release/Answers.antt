@@ -1,16 +1,16 @@
-use Rattle.gv_space.proofs.PlaceLists.{rows_kept}
+use Rattle.gv_space.proofs.FirstPageLists.{rows_kept}
 use Rattle.std.proofs.Common.{◌≡◌, ◌-◌, arith, length, refl, sym, subst, ap, ◌∙◌, List, ◌++◌}
 use Rattle.gv_types.specs.declared.mapping.Mapping.{Mapping}
 use Rattle.gv_buffers.specs.Buffers.{BuffersState, IsLive}
 use Rattle.gv_space.specs.Counts.{by_count, less_kept}
-use Rattle.gv_space.specs.State.{SpaceState, IsSpace, IsPlaced, AreKept}
+use Rattle.gv_space.specs.State.{SpaceState, IsSpace, IsValidMapping, AreKept}
 use Rattle.gv_space.specs.Undo.{OpUndoState, released}
 use Rattle.gv_space.specs.Inside.{space_of}
-use Rattle.gv_space.proofs.Spaces.{IsSpace-released}
+use Rattle.gv_space.proofs.SpaceInvariant.{IsSpace-released}
 use Rattle.gv_space.proofs.ByCountLemmas.{live_from_placed, less_kept_of_counts}
 use Rattle.gv_space.proofs.LiveNames.{lived-by_count}
 use Rattle.gv_space.proofs.KeptLemmas.{All-front, AreKept-released}
-use Rattle.gv_space.proofs.Rooms.{saved_are_kept}
+use Rattle.gv_space.proofs.RoomInCounts.{saved_are_kept}
 use Rattle.gv_space.proofs.space.Space.release.Goals as goal
 
 pub unkeep-requires-clause-live : goal.unkeep-requires-clause-live
@@ -19,7 +19,7 @@ unkeep-requires-clause-live c =
     let taken : List Mapping = c.args.undo.change.taken in
     let taken_is : c.undo.inside.taken.items ≡ taken = ap (λ (u : OpUndoState). u.change.taken) c.undo.view_is in
     let saved : AreKept s (taken ++ c.requires.others) = subst (λ (t : SpaceState). AreKept t (taken ++ c.requires.others)) (sym c.self.view_is) c.requires.are_kept in
-    rw (c.as_slice.ensures, taken_is) (live_from_placed s.area s.buffers taken (All-front (IsPlaced s.area s.buffers) taken c.requires.others saved.placed))
+    rw (c.as_slice.ensures, taken_is) (live_from_placed s.area s.buffers taken (All-front (IsValidMapping s.area s.buffers) taken c.requires.others saved.valid))
 
 pub unkeep-requires-clause-counted : goal.unkeep-requires-clause-counted
 unkeep-requires-clause-counted c =
@@ -41,8 +41,8 @@ invariant_of-self c =
     record {
       space = subst IsSpace (sym state) (IsSpace-released s taken c.requires.others c.self.invariant.space saved);
       named = λ id lives. c.self.invariant.named id (lived-by_count less_kept taken s.buffers less_kept_of_counts id (subst (λ (t : BuffersState). IsLive t id) buffers_is lives));
-      places = c.self.invariant.places;
-      rows = rows_kept s.buffers c.unkeep.new.buffers (length c.self.inside.places) (length c.self.inside.places)
+      first_pages = c.self.invariant.first_pages;
+      rows = rows_kept s.buffers c.unkeep.new.buffers (length c.self.inside.first_pages) (length c.self.inside.first_pages)
           (λ id lives. lived-by_count less_kept taken s.buffers less_kept_of_counts id (subst (λ (t : BuffersState). IsLive t id) buffers_is lives)) (omega arith) c.self.invariant.rows;
     }
 

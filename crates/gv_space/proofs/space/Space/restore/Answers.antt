@@ -4,7 +4,7 @@ use Rattle.gv_ranges.specs.Edit.{restored}
 use Rattle.gv_ranges.proofs.ChangeLemmas.{at-restored}
 use Rattle.gv_space.specs.State.{SpaceState}
 use Rattle.gv_space.specs.Undo.{OpUndoState, undo_with}
-use Rattle.gv_space.proofs.Says.{holds_what_was}
+use Rattle.gv_space.proofs.PageAfterOperation.{holds_what_was}
 use Rattle.gv_space.specs.Change.{IsChanged}
 use Rattle.gv_space.proofs.space.Space.restore.Goals as goal
 

@@ -3,10 +3,10 @@ use Rattle.gv_ranges.specs.List.{RangeListState, run}
 use Rattle.gv_ranges.specs.Edit.{undone}
 use Rattle.gv_buffers.specs.Buffers.{BuffersState, IsLive}
 use Rattle.gv_types.specs.declared.mapping.Mapping.{Mapping}
-use Rattle.gv_space.specs.Mapped.{AreLiveNamed}
-use Rattle.gv_space.specs.Placed.{ArePlaces}
-use Rattle.gv_space.proofs.Rooms.{length-taken-le-most_kept}
-use Rattle.gv_space.proofs.PlaceLists.{rows_for, rows_kept, room_for_places, places_spliced}
+use Rattle.gv_space.specs.ListWithTable.{AreLiveNamed}
+use Rattle.gv_space.specs.ListFirstPages.{AreFirstPages}
+use Rattle.gv_space.proofs.RoomInCounts.{length-taken-le-most_kept}
+use Rattle.gv_space.proofs.FirstPageLists.{rows_for, rows_kept, room_for_first_pages, first_pages_spliced}
 use Rattle.gv_space.specs.State.{SpaceState, IsSpace, AreKept}
 use Rattle.gv_space.specs.Undo.{OpUndoState, CanRevert, reverted}
 use Rattle.gv_space.specs.Inside.{space_of}
@@ -28,7 +28,7 @@ move_counts_back-requires-clause-rows c =
     let u : OpUndoState = undo_of c.undo.inside in
     let fits : CanRevert s u = fits_inside c.self.inside c.undo.inside c.args.self.now c.args.undo c.self.view_is c.undo.view_is c.requires in
     rw c.as_slice.ensures
-    (rows_for s.buffers (length c.self.inside.places) u.change.taken c.self.invariant.rows (taken_live s u c.self.invariant.space fits))
+    (rows_for s.buffers (length c.self.inside.first_pages) u.change.taken c.self.invariant.rows (taken_live s u c.self.invariant.space fits))
 
 pub move_counts_back-requires-clause-few : goal.move_counts_back-requires-clause-few
 move_counts_back-requires-clause-few c =
@@ -36,8 +36,8 @@ move_counts_back-requires-clause-few c =
     let u : OpUndoState = undo_of c.undo.inside in
     let fits : CanRevert s u = fits_inside c.self.inside c.undo.inside c.args.self.now c.args.undo c.self.view_is c.undo.view_is c.requires in
     rw c.as_slice.ensures
-    (room_for_places s c.self.inside.places u.change.taken c.self.invariant.space
-    (length-taken-le-most_kept s u.change.taken fits.kept.others c.self.invariant.space fits.kept.are_kept) c.self.invariant.places)
+    (room_for_first_pages s c.self.inside.first_pages u.change.taken c.self.invariant.space
+    (length-taken-le-most_kept s u.change.taken fits.kept.others c.self.invariant.space fits.kept.are_kept) c.self.invariant.first_pages)
 
 pub put_back-requires-clause-within : goal.put_back-requires-clause-within
 put_back-requires-clause-within c =
@@ -143,11 +143,11 @@ invariant_of-self c =
       named = subst (AreLiveNamed c.move_counts_back.new.buffers) (sym c.put_back.ensures.names)
           (λ id lives. c.self.invariant.named id
           (lived_before c.run_at-pieces.result c.as_slice.result.now s.buffers id (subst (λ (t : BuffersState). IsLive t id) c.move_counts_back.ensures.counts lives)));
-      places = subst (λ (ms : List Mapping). ArePlaces ms c.move_counts_back.new.places) (sym list_is)
-          (places_spliced s.mappings c.run_at-pieces.result u.change.taken u.change.index u.change.put_in c.self.inside.places c.move_counts_back.new.places gone_is
+      first_pages = subst (λ (ms : List Mapping). AreFirstPages ms c.move_counts_back.new.first_pages) (sym list_is)
+          (first_pages_spliced s.mappings c.run_at-pieces.result u.change.taken u.change.index u.change.put_in c.self.inside.first_pages c.move_counts_back.new.first_pages gone_is
           c.self.invariant.space.laid_out fits.undo.laid_out
-          (rw c.as_slice.ensures at c.move_counts_back.ensures.places) c.self.invariant.places);
-      rows = rows_kept s.buffers c.move_counts_back.new.buffers (length c.self.inside.places) (length c.move_counts_back.new.places)
+          (rw c.as_slice.ensures at c.move_counts_back.ensures.first_pages) c.self.invariant.first_pages);
+      rows = rows_kept s.buffers c.move_counts_back.new.buffers (length c.self.inside.first_pages) (length c.move_counts_back.new.first_pages)
           (λ id lives. lived_before c.run_at-pieces.result c.as_slice.result.now s.buffers id (subst (λ (t : BuffersState). IsLive t id) c.move_counts_back.ensures.counts lives)) (omega (arith, c.move_counts_back.ensures.rows)) c.self.invariant.rows;
     }
 

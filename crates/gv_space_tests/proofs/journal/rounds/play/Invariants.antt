@@ -1,4 +1,4 @@
-use Rattle.gv_journal.specs.State.{FitsSpace}
+use Rattle.gv_journal.specs.Fits.{FitsSpace}
 use Rattle.gv_space_tests.proofs.journal.rounds.play.Given as goal
 
 abbrev pub invariant-loop-turn_number : goal.invariant-loop-turn_number

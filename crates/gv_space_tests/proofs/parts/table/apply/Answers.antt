@@ -7,7 +7,7 @@ use Rattle.gv_ranges.specs.List.{IsLaidOut}
 use Rattle.gv_ranges.specs.Edit.{edited}
 use Rattle.gv_ranges.proofs.ChangeLemmas.{laid_out-edited}
 use Rattle.gv_table.specs.Reads.{AreAlikeOutside}
-use Rattle.gv_table.specs.Names.{AreNamed}
+use Rattle.gv_table.specs.BufferNames.{AreNamed}
 use Rattle.gv_table.specs.Kinds.{AreEnough}
 use Rattle.gv_table.specs.Table.{FitsOutside, gained_by}
 use Rattle.gv_table.proofs.EditLemmas.{edited-alike, edited-own}

@@ -1,6 +1,6 @@
 use Rattle.std.proofs.Common.{◌≡◌, Some, slice_get}
 use Rattle.gv_types.specs.Mapping.{buffer_id}
-use Rattle.gv_table.specs.Names.{AreNamed}
+use Rattle.gv_table.specs.BufferNames.{AreNamed}
 use Rattle.gv_table.specs.Table.{IsTree}
 use Rattle.gv_space_tests.proofs.parts.table.play.Given as goal
 

@@ -1,5 +1,5 @@
 use Rattle.std.proofs.Common.{rules}
-use Rattle.gv_sync.proofs.Rises.{loads}
+use Rattle.gv_sync.proofs.StepsKeepRule.{loads}
 use Rattle.gv_sync.proofs.timelines.Timelines.load.Goals as goal
 
 pub load-requires : goal.load-requires

@@ -1,5 +1,5 @@
 use Rattle.std.proofs.Common.{rules}
-use Rattle.gv_sync.proofs.Rises.{splits}
+use Rattle.gv_sync.proofs.StepsKeepRule.{splits}
 use Rattle.gv_sync.proofs.timelines.Timelines.share.Goals as goal
 
 pub split_seat-pass-requires : goal.split_seat-pass-requires

@@ -1,5 +1,5 @@
 use Rattle.std.proofs.Common.{◌≡◌, ℕ, Bool, true, false, not, is_some, List, Box, Global, Option, Some, None, arith, refl, subst}
-use Rattle.gv_table.specs.Names.{PageSlot}
+use Rattle.gv_table.specs.BufferNames.{PageSlot}
 use Rattle.gv_table.specs.declared.slot.Slot.{Slot}
 use Rattle.gv_table.specs.PageChain.{pages_linked, pages_link}
 use Rattle.gv_table.proofs.PageChains.{linked-Empty, linked-Pages}

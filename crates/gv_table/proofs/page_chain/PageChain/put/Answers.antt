@@ -1,6 +1,6 @@
 use Rattle.std.proofs.Common.{◌≡◌, ◌+◌, ◌∙◌, sym, ap, ℕ, List, subst, arith}
 use Rattle.std.specs.Box.{with_value}
-use Rattle.gv_table.specs.Names.{PageSlot}
+use Rattle.gv_table.specs.BufferNames.{PageSlot}
 use Rattle.gv_table.specs.declared.slot.Slot.{Slot}
 use Rattle.gv_table.specs.declared.slot.Slot.TheVariants.{Pages}
 use Rattle.gv_table.specs.PageChain.{ArePagesEmpty, IsPageChain, pages_linked, pages_link}

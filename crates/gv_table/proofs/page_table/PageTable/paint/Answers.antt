@@ -4,11 +4,11 @@ use Rattle.gv_types.specs.declared.mapping.Mapping.{Mapping}
 use Rattle.gv_ranges.specs.List.{IsLaidOut, AreEnded}
 use Rattle.gv_table.specs.declared.slot.Slot.{Slot}
 use Rattle.gv_table.specs.Named.{named}
-use Rattle.gv_table.specs.Names.{unnamed, AreNamed, AreTold}
+use Rattle.gv_table.specs.BufferNames.{unnamed, AreNamed, AreEncodable}
 use Rattle.gv_table.specs.Table.{PageTable}
-use Rattle.gv_table.specs.Tree.{IsTreeOf, IsTreeOutside, IsToldOutside}
-use Rattle.gv_table.proofs.BothWays.{both-ways, gained-is, lost-is}
-use Rattle.gv_table.proofs.NamedTrees.{named-tree, named-told, told-outside, tree-told}
+use Rattle.gv_table.specs.Tree.{IsTreeOf, IsTreeOutside, IsEncodableOutside}
+use Rattle.gv_table.proofs.GainsUndoLosses.{both-ways, gained-is, lost-is}
+use Rattle.gv_table.proofs.NamedTrees.{named-tree, named-encoded, encoded-outside, tree-encoded}
 use Rattle.gv_table.proofs.PagesOf.{pages_of-top}
 use Rattle.gv_table.proofs.Unnamed.{laid_out-unnamed, ended-unnamed}
 use Rattle.gv_table.proofs.page_table.PageTable.paint.Goals as goal
@@ -17,10 +17,10 @@ pub paint_tree-requires-clause-laid_out : goal.paint_tree-requires-clause-laid_o
 paint_tree-requires-clause-laid_out c =
     subst (λ (xs : List Mapping). IsLaidOut xs) (sym (c.of-mappings.ensures ∙ ap unnamed c.of_list.ensures)) (laid_out-unnamed c.args.list.now.mappings 0 (search rules))
 
-pub paint_tree-requires-clause-told : goal.paint_tree-requires-clause-told
-paint_tree-requires-clause-told c =
-    subst AreTold (sym (c.of-mappings.ensures ∙ ap unnamed c.of_list.ensures))
-    (named-told c.self.inside.names.items c.args.list.now.mappings c.self.invariant.named
+pub paint_tree-requires-clause-encoded : goal.paint_tree-requires-clause-encoded
+paint_tree-requires-clause-encoded c =
+    subst AreEncodable (sym (c.of-mappings.ensures ∙ ap unnamed c.of_list.ensures))
+    (named-encoded c.self.inside.names.items c.args.list.now.mappings c.self.invariant.named
     (subst (λ (xs : List BufferId). AreNamed xs c.args.list.now.mappings) (sym (ap (λ (t : PageTable). t.names) c.self.view_is)) c.requires.named))
 
 pub paint_tree-requires-clause-ended : goal.paint_tree-requires-clause-ended
@@ -31,8 +31,8 @@ paint_tree-requires-clause-ended c =
 pub paint_tree-requires-clause-outside : goal.paint_tree-requires-clause-outside
 paint_tree-requires-clause-outside c =
     let all = pages_of-top in
-    subst (λ (xs : List Mapping). IsToldOutside xs c.args.range 5 0 c.self.inside.root) (sym (c.of-mappings.ensures ∙ ap unnamed c.of_list.ensures))
-    (told-outside c.self.inside.names.items c.self.invariant.named c.args.list.now.mappings c.args.range c.self.inside.root (omega (arith, all)) c.self.invariant.told
+    subst (λ (xs : List Mapping). IsEncodableOutside xs c.args.range 5 0 c.self.inside.root) (sym (c.of-mappings.ensures ∙ ap unnamed c.of_list.ensures))
+    (encoded-outside c.self.inside.names.items c.self.invariant.named c.args.list.now.mappings c.args.range c.self.inside.root (omega (arith, all)) c.self.invariant.encoded
     (subst (λ (s : Slot). IsTreeOutside c.args.list.now.mappings c.args.range 5 0 s) (sym (ap (λ (t : PageTable). t.root) c.self.view_is)) c.requires.fitted))
 
 pub paint_tree-requires-clause-enough : goal.paint_tree-requires-clause-enough
@@ -47,10 +47,10 @@ invariant_of-self c =
     record {
       counted = c.paint_tree.ensures.counted;
       shaped = c.paint_tree.ensures.shaped;
-      told = tree-told c.of-mappings.result 5 0 c.paint_tree.new.root
+      encoded = tree-encoded c.of-mappings.result 5 0 c.paint_tree.new.root
           (subst (λ (xs : List Mapping). IsLaidOut xs) (sym is) (laid_out-unnamed c.args.list.now.mappings 0 (search rules)))
-          (subst AreTold (sym is)
-          (named-told c.self.inside.names.items c.args.list.now.mappings c.self.invariant.named
+          (subst AreEncodable (sym is)
+          (named-encoded c.self.inside.names.items c.args.list.now.mappings c.self.invariant.named
           (subst (λ (xs : List BufferId). AreNamed xs c.args.list.now.mappings) (sym (ap (λ (t : PageTable). t.names) c.self.view_is)) c.requires.named)))
           c.paint_tree.ensures.tree;
       named = c.self.invariant.named;

@@ -1,11 +1,11 @@
 use Rattle.std.proofs.Common.{ap, ◌∙◌}
 use Rattle.gv_table.specs.Table.{PageTable}
-use Rattle.gv_table.proofs.LikenessLemmas.{tables-wanted}
+use Rattle.gv_table.proofs.SameTreeLemmas.{tables-wanted}
 use Rattle.gv_table.proofs.NamedTrees.{counted-named}
 use Rattle.gv_table.proofs.page_table.PageTable.tables.Goals as goal
 
-pub returns-clause-standing : goal.returns-clause-standing
-returns-clause-standing c =
+pub returns-clause-present : goal.returns-clause-present
+returns-clause-present c =
     let counted = counted-named c.self.inside.root c.args.self.now.root c.self.inside.counts c.self.inside.names.items c.self.invariant (ap (λ (t : PageTable). t.root) c.self.view_is) in
     let four = counted 4 in
     let three = counted 3 in

@@ -5,7 +5,7 @@ use Rattle.std.proofs.lemmas.Result.{err_from_is_err_and}
 use Rattle.gv_lines.specs.Words.{parts}
 use Rattle.gv_session.specs.State.{SessionState}
 use Rattle.gv_text.specs.Script.{IsFront, RunsWhole, refusals_of}
-use Rattle.gv_text.proofs.Front.{front_more, front_start, keeps_pending}
+use Rattle.gv_text.proofs.LinesRun.{front_more, front_start, keeps_pending}
 use Rattle.gv_text.proofs.Alike.{only_whole}
 use Rattle.gv_text.proofs.Ends.{line_ends, tells_from, stops_at, empty_from}
 use Rattle.gv_text.proofs.script.ScriptRun.run_each.Goals as goal
@@ -17,7 +17,7 @@ loop-line-init g c = record {
   front = subst (λ (s : SessionState). IsFront c.args.script.now [] (parts 10 c.args.script.now) 0 0 s) (sym c.requires.start) (front_start c.args.script.now);
   wrote = keeps_pending (g.W.Sink.written c.args.writer.now) c.args.output.now c.requires.fresh;
   flag = refl;
-  left = omega arith;
+  remaining = omega arith;
 }
 
 pub returns-in_err-run_line-clause-ends : goal.returns-in_err-run_line-clause-ends
@@ -43,7 +43,7 @@ loop-line-preserved g c =
       front = front_more _ _ _ _ _ _ _ _ _ front ran.1;
       wrote = Appends-trans _ _ _ _ _ c.loop-line.invariant.wrote ran.2;
       flag = c.in_ok-run_line.ensures.fault ∙ c.loop-line.invariant.flag;
-      left = omega (arith, c.in-Some.ensures.shorter);
+      remaining = omega (arith, c.in-Some.ensures.shorter);
     }
 
 pub returns-then-is_empty-clause-ends : goal.returns-then-is_empty-clause-ends

@@ -11,7 +11,7 @@ invariant-loop-line g l = record {
   front : IsFront l.script text (parts 10 l.rest) l.done refusals l.self.session;
   wrote : Appends (g.W.Sink.written l.initial.writer) (append_known (g.W.Sink.written l.writer) l.output) text;
   flag : g.W.Sink.failed l.writer ≡ g.W.Sink.failed l.initial.writer;
-  left : l.done + length l.rest ≤ length l.script;
+  remaining : l.done + length l.rest ≤ length l.script;
 }
 
 abbrev pub decreases-loop-line : goal.decreases-loop-line

@@ -3,15 +3,15 @@ use Rattle.std.specs.Io.KnownBytes.{Appends, append_known}
 use Rattle.std.proofs.KnownBytes.{Appends-trans}
 use Rattle.gv_sync.specs.Seats.{SeatState}
 use Rattle.gv_lines.specs.declared.line.Line.{Line}
-use Rattle.gv_session.specs.State.{NamesState}
+use Rattle.gv_session.specs.State.{BufferNamesState}
 use Rattle.gv_session.specs.declared.fault.LineFault.{LineFault}
 use Rattle.gv_session.specs.declared.fault.ScriptFault.TheVariants.{BadLine}
 use Rattle.gv_threads.specs.Naming.{HasNames, IsFirstBad}
 use Rattle.gv_threads.specs.Parts.{unnumbered}
 use Rattle.gv_threads.specs.Running.{AreAnswered, IsAnswered}
-use Rattle.gv_threads.proofs.Asks.{asked_at, same_answer}
-use Rattle.gv_threads.proofs.Named.{answered_has, bad_at, first_bad, good_next}
-use Rattle.gv_threads.proofs.Texts.{answered_more, unnumbered_next}
+use Rattle.gv_threads.proofs.LastPart.{asked_at, same_answer}
+use Rattle.gv_threads.proofs.UndeclaredNames.{answered_has, bad_at, first_bad, good_next}
+use Rattle.gv_threads.proofs.OneLineMore.{answered_more, unnumbered_next}
 use Rattle.gv_threads.proofs.script.ThreadsScript.answer_all.Goals as goal
 
 pub ask-done-requires-clause-asked : goal.ask-done-requires-clause-asked
@@ -79,6 +79,6 @@ returns-in-Err-clause-bad_line g c = λ line same.
     let lacks : ¬ HasNames c.loop-number.harness.buffers.entries c.self.inside.timelines.names item.1 = c.ask-done.ensures.bad (c.in-Err.is ∙ ap (λ (f : LineFault). Err f) bad.0) in
     let same_names : ¬ HasNames c.args.harness.now.buffers.entries c.args.self.now.timelines item.1 =
     subst (λ (ns : List (List ℕ)). ¬ HasNames c.args.harness.now.buffers.entries ns item.1) names
-    (subst (λ (b : NamesState). ¬ HasNames b.entries c.self.inside.timelines.names item.1) inv.buffers lacks) in
+    (subst (λ (b : BufferNamesState). ¬ HasNames b.entries c.self.inside.timelines.names item.1) inv.buffers lacks) in
     subst (λ (n : ℕ). IsFirstBad (HasNames c.args.harness.now.buffers.entries c.args.self.now.timelines) questions n) bad.1
     (first_bad (HasNames c.args.harness.now.buffers.entries c.args.self.now.timelines) questions k item below is inv.good same_names)

@@ -1,7 +1,7 @@
 use Rattle.std.proofs.Common.{◌≡◌, ◌<◌, List, ℕ, true, false, is_some, length, get_or, subst, rules}
 use Rattle.gv_lines.specs.declared.line.Line.{Line}
 use Rattle.gv_threads.specs.Naming.{HasBuffer, IsFirstBad}
-use Rattle.gv_threads.proofs.Named.{first_bad, good_next, has_buffer, has_other, lacks_buffer}
+use Rattle.gv_threads.proofs.UndeclaredNames.{first_bad, good_next, has_buffer, has_other, lacks_buffer}
 use Rattle.gv_threads.proofs.script.ThreadsScript.check_questions.Goals as goal
 use Rattle.gv_threads.proofs.script.ThreadsScript.check_questions.Goals.{in-Uses+else-is_none, in_default}
 

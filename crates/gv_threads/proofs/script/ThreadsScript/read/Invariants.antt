@@ -3,19 +3,19 @@ use Rattle.gv_lines.specs.Grammar.{parsed}
 use Rattle.gv_lines.specs.Words.{parts}
 use Rattle.gv_lines.specs.declared.line.Line.{Line}
 use Rattle.gv_threads.specs.Parts.{Keeps}
-use Rattle.gv_threads.specs.Standing.{MayStandAll, standing_behind, standing_of}
+use Rattle.gv_threads.specs.ReadSoFar.{MayStandAll, read_after, read_so_far}
 use Rattle.gv_threads.proofs.script.ThreadsScript.read.Given as goal
 
 abbrev pub invariant-loop-line : goal.invariant-loop-line
 invariant-loop-line l = record {
   queues : l.script.queues ≡ l.count;
-  left : l.number + length l.rest ≤ length l.text + 1;
+  remaining : l.number + length l.rest ≤ length l.text + 1;
   lines : List Line;
   texts : List (List ℕ);
   cut : parts 10 l.text ≡ texts ++ parts 10 l.rest;
   read : map parsed texts ≡ map Some lines;
-  kept : l.script.whole ≡ true → Keeps lines l.script;
-  standing : standing_of l.script ≡ standing_behind lines;
+  kept : l.script.has_memory ≡ true → Keeps lines l.script;
+  so_far : read_so_far l.script ≡ read_after lines;
   stand : MayStandAll l.count lines;
   counted : l.number ≡ length texts + 1;
 }

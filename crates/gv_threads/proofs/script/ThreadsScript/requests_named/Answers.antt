@@ -8,8 +8,8 @@ use Rattle.gv_threads.specs.Naming.{IsFirstBad, MayBePut}
 use Rattle.gv_threads.specs.Parts.{unnumbered}
 use Rattle.gv_threads.specs.Running.{AreNamed}
 use Rattle.gv_threads.specs.Script.{IsFor}
-use Rattle.gv_threads.proofs.Named.{first_bad, good_next}
-use Rattle.gv_threads.proofs.Texts.{named_more, unnumbered_next}
+use Rattle.gv_threads.proofs.UndeclaredNames.{first_bad, good_next}
+use Rattle.gv_threads.proofs.OneLineMore.{named_more, unnumbered_next}
 use Rattle.gv_threads.proofs.script.ThreadsScript.requests_named.Goals as goal
 use Rattle.gv_threads.proofs.script.ThreadsScript.requests_named.Goals.{in-Ok+then-not-keep, in-Ok+else-not-keep, in-Err-OutOfMemory}
 

@@ -2,9 +2,9 @@ use Rattle.std.proofs.Common.{◌≡◌, ◌+◌, ◌++◌, ◌∷◌, ◌<◌, 
 use Rattle.std.proofs.lemmas.List.{map-append}
 use Rattle.std.proofs.lemmas.List.Quantifiers.{all_pairs_push}
 use Rattle.gv_vm.specs.Jobs.{JobState, JobsState, AreRunning, many_fault, job_state}
-use Rattle.gv_vm.specs.Inside.{AreAscending, running_of}
+use Rattle.gv_vm.specs.JobsInside.{AreAscending, running_of}
 use Rattle.gv_vm.specs.declared.jobs.Job.{Job}
-use Rattle.gv_vm.proofs.Ascending.{AreRunning-more, room_from_none, below_next}
+use Rattle.gv_vm.proofs.RunningJobs.{AreRunning-more, room_from_none, below_next}
 use Rattle.gv_vm.proofs.jobs.Jobs.add.Goals as goal
 
 pub invariant_of-self-2 : goal.invariant_of-self-2

@@ -2,7 +2,7 @@ use Rattle.std.proofs.Common.{◌≡◌, ℕ, sym, ap, subst}
 use Rattle.gv_buffers.specs.Buffers.{left_everywhere}
 use Rattle.gv_space.specs.State.{SpaceState}
 use Rattle.gv_vm.specs.Jobs.{JobsState, AreHeld}
-use Rattle.gv_vm.proofs.Held.{AreHeld-begun, next_uses_nothing, given_up}
+use Rattle.gv_vm.proofs.BufferUsers.{AreHeld-begun, next_uses_nothing, given_up}
 use Rattle.gv_vm.proofs.jobs.Jobs.begin.Goals as goal
 
 pub returns-in-Ok-clause-held : goal.returns-in-Ok-clause-held

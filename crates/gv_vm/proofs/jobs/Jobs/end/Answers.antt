@@ -2,8 +2,8 @@ use Rattle.std.proofs.Common.{◌≡◌, ◌≢◌, List, sym, ◌∙◌, ap, su
 use Rattle.std.specs.List.{All}
 use Rattle.gv_space.specs.State.{SpaceState}
 use Rattle.gv_vm.specs.Jobs.{JobState, JobsState, AreHeld, without_job}
-use Rattle.gv_vm.proofs.Held.{AreHeld-ended}
-use Rattle.gv_vm.proofs.Ascending.{without_none}
+use Rattle.gv_vm.proofs.BufferUsers.{AreHeld-ended}
+use Rattle.gv_vm.proofs.RunningJobs.{without_none}
 use Rattle.gv_vm.proofs.jobs.Jobs.end.Goals as goal
 
 pub returns-then-not-remove-clause-unchanged : goal.returns-then-not-remove-clause-unchanged

@@ -3,7 +3,7 @@ use Rattle.gv_sync.specs.Sights.{Sight}
 use Rattle.gv_vm.specs.World.{HandState, next_wait}
 use Rattle.gv_vm.specs.Queues.{IsInOrder}
 use Rattle.gv_vm.specs.HandInside.{hand_of}
-use Rattle.gv_vm.proofs.Turning.{IsInOrder-reached}
+use Rattle.gv_vm.proofs.QueueInvariant.{IsInOrder-reached}
 use Rattle.gv_vm.proofs.queue.Hand.reach.Goals as goal
 
 pub invariant_of-self-2 : goal.invariant_of-self-2

@@ -3,7 +3,7 @@ use Rattle.std.proofs.lemmas.Bool.{eqb-true}
 use Rattle.gv_types.specs.declared.request.Point.{Point}
 use Rattle.gv_sync.specs.Sights.{Sight}
 use Rattle.gv_vm.specs.World.{QueueState}
-use Rattle.gv_vm.specs.Turns.{TookFront}
+use Rattle.gv_vm.specs.QueueEvents.{TookFront}
 use Rattle.gv_vm.proofs.queue.Queue.take.Goals as goal
 
 none_left : {X : Type 0} (xs : List X) → length xs ≡ 0 → xs ≡ []

@@ -1,7 +1,7 @@
 use Rattle.std.proofs.Common.{sym}
 use Rattle.gv_vm.specs.VmInside.{parts_of}
 use Rattle.gv_vm.proofs.AddressPasts.{base_bytes}
-use Rattle.gv_vm.proofs.Vms.{fits_space}
+use Rattle.gv_vm.proofs.VmInvariant.{fits_space}
 use Rattle.gv_vm.proofs.vm.Vm.base_at.Goals as goal
 
 pub base_at-requires : goal.base_at-requires

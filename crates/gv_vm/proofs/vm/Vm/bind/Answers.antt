@@ -1,7 +1,7 @@
 use Rattle.std.proofs.Common.{◌≡◌, ◌∙◌, ap, subst, ℕ, List, None}
 use Rattle.gv_vm.specs.State.{roomless}
 use Rattle.gv_vm.specs.VmInside.{parts_of}
-use Rattle.gv_vm.specs.Telling.{lists_of, forgotten_in}
+use Rattle.gv_vm.specs.QueueOutcomes.{lists_of, forgotten_in}
 use Rattle.gv_vm.specs.BindOutcome.{CameTo, seen_by}
 use Rattle.gv_vm.specs.Outcomes.{with_outcome, tell_fault}
 use Rattle.gv_vm.specs.declared.outcome.Outcome.{Outcome}

@@ -1,5 +1,5 @@
 use Rattle.gv_vm.specs.VmInside.{parts_of}
-use Rattle.gv_vm.proofs.Vms.{IsVm-buffers, AreHeld-create}
+use Rattle.gv_vm.proofs.VmInvariant.{IsVm-buffers, AreHeld-create}
 use Rattle.gv_vm.proofs.vm.Vm.create.Goals as goal
 
 pub invariant_of-self : goal.invariant_of-self

@@ -1,5 +1,5 @@
 use Rattle.gv_vm.specs.VmInside.{parts_of}
-use Rattle.gv_vm.proofs.Vms.{IsVm-buffers, AreHeld-destroy, only_buffers}
+use Rattle.gv_vm.proofs.VmInvariant.{IsVm-buffers, AreHeld-destroy, only_buffers}
 use Rattle.gv_vm.proofs.vm.Vm.destroy.Goals as goal
 
 pub invariant_of-self : goal.invariant_of-self

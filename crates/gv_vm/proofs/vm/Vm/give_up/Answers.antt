@@ -1,6 +1,6 @@
 use Rattle.std.proofs.Common.{◌∙◌, ap, List}
 use Rattle.gv_vm.specs.VmInside.{parts_of}
-use Rattle.gv_vm.specs.Telling.{lists_of, forgotten_in}
+use Rattle.gv_vm.specs.QueueOutcomes.{lists_of, forgotten_in}
 use Rattle.gv_vm.specs.Outcomes.{with_outcome}
 use Rattle.gv_vm.specs.declared.outcome.Outcome.{Outcome}
 use Rattle.gv_vm.specs.declared.outcome.Outcome.TheVariants.{NotReady}

@@ -3,7 +3,7 @@ use Rattle.std.specs.Prelude.{IfOk}
 use Rattle.gv_vm.specs.Jobs.{IsBegun}
 use Rattle.gv_vm.specs.State.{VmState, roomless}
 use Rattle.gv_vm.specs.VmInside.{parts_of}
-use Rattle.gv_vm.proofs.Vms.{IsVm-buffers, begun_buffers}
+use Rattle.gv_vm.proofs.VmInvariant.{IsVm-buffers, begun_buffers}
 use Rattle.gv_vm.proofs.Roomless.{begun_if}
 use Rattle.gv_vm.proofs.vm.Vm.job_begin.Goals as goal
 

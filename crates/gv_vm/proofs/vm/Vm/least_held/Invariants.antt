@@ -1,5 +1,5 @@
 use Rattle.std.proofs.Common.{◌≡◌, drop, None}
-use Rattle.gv_vm.specs.HeldInside.{least_held}
+use Rattle.gv_vm.specs.HeldEntries.{least_held}
 use Rattle.gv_vm.proofs.vm.Vm.least_held.Given as goal
 
 abbrev pub invariant-loop-outcome : goal.invariant-loop-outcome

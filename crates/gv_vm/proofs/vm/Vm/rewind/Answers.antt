@@ -3,7 +3,7 @@ use Rattle.std.specs.Prelude.{OnOk}
 use Rattle.gv_journal.specs.Binding.{IsRewound}
 use Rattle.gv_vm.specs.State.{VmState, roomless}
 use Rattle.gv_vm.specs.VmInside.{parts_of}
-use Rattle.gv_vm.proofs.Vms.{IsVm-rewind}
+use Rattle.gv_vm.proofs.VmInvariant.{IsVm-rewind}
 use Rattle.gv_vm.proofs.Roomless.{rewound_if}
 use Rattle.gv_vm.proofs.vm.Vm.rewind.Goals as goal
 

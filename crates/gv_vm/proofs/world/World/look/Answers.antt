@@ -4,12 +4,12 @@ use Rattle.gv_sync.specs.Raises.{IsReached}
 use Rattle.gv_vm.specs.World.{WorldState, QueueState, queue_at, with_queue, seen_at}
 use Rattle.gv_vm.specs.WorldInside.{world_of}
 use Rattle.gv_vm.specs.Step.{step, CanReach}
-use Rattle.gv_vm.specs.Turns.{wait_of, with_reached, with_lacked}
+use Rattle.gv_vm.specs.QueueEvents.{wait_of, with_reached, with_lacked}
 use Rattle.gv_vm.specs.declared.event.Event.TheVariants.{Look}
 use Rattle.gv_vm.specs.declared.event.Reply.TheVariants.{Reached, Lacking}
-use Rattle.gv_vm.proofs.Worlds.{IsOf, AreQueues-with_queue}
-use Rattle.gv_vm.proofs.Stepping.{from_err, from_ok, queue_read, same_world, reached, lacked, may_reach}
-use Rattle.gv_vm.proofs.Turning.{IsQueueOf-reached, IsQueueOf-lacked}
+use Rattle.gv_vm.proofs.AllQueuesInvariant.{IsOf, AreQueues-with_queue}
+use Rattle.gv_vm.proofs.TurnsAreSteps.{from_err, from_ok, queue_read, same_world, reached, lacked, may_reach}
+use Rattle.gv_vm.proofs.QueueInvariant.{IsQueueOf-reached, IsQueueOf-lacked}
 use Rattle.gv_vm.proofs.world.World.look.Goals as goal
 
 pub invariant_of-self-in-Err : goal.invariant_of-self-in-Err

@@ -1,6 +1,6 @@
 use Rattle.std.proofs.Common.{◌≡◌, ◌++◌, ◌∷◌, [], sym, ap, ◌∙◌, arith}
-use Rattle.gv_vm.specs.declared.event.Looked.TheVariants.{AllReached, Lacked, Other}
-use Rattle.gv_vm.specs.TurnInside.{seen_as}
+use Rattle.gv_vm.specs.declared.event.LookResult.TheVariants.{NoneLacked, Lacked, Other}
+use Rattle.gv_vm.specs.TurnParts.{seen_as}
 use Rattle.gv_vm.specs.Plans.{looked_of, carrying_out}
 use Rattle.gv_vm.proofs.PlanLemmas.{goes_nil, goes_trans, goes_as, look_goes_on, look_stops, looks_done, stopped_behind, wants_look}
 use Rattle.gv_vm.proofs.QueueTurns.{quiet_nil, quiet-append, look_quiet, seen_looked, lacks_is, on_err}
@@ -16,7 +16,7 @@ loop-done-init c = record {
 pub loop-done-preserved : goal.loop-done-preserved
 loop-done-preserved c =
     let reply = c.in_ok-reply.reply in
-    let is : looked_of reply ≡ AllReached = seen_looked reply ∙ ap seen_as (sym c.in-AllReached.ensures) in
+    let is : looked_of reply ≡ NoneLacked = seen_looked reply ∙ ap seen_as (sym c.in-NoneLacked.ensures) in
     record {
       replies = c.loop-done.invariant.replies ++ reply ∷ [];
       quiet = quiet-append c.loop-done.invariant.replies (reply ∷ []) c.loop-done.invariant.quiet (look_quiet c.args.queue reply _ _ c.in_ok-reply.ensures.step (λ same. let e = sym is ∙ same in cc));

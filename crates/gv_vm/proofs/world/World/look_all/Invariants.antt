@@ -2,7 +2,7 @@ use Rattle.std.proofs.Common.{◌≡◌, Bool, List, length, drop}
 use Rattle.gv_types.specs.declared.request.Point.{Point}
 use Rattle.gv_vm.specs.declared.event.Reply.{Reply}
 use Rattle.gv_vm.specs.Plans.{Goes, looks}
-use Rattle.gv_vm.specs.TurnInside.{AreQuiet}
+use Rattle.gv_vm.specs.TurnParts.{AreQuiet}
 use Rattle.gv_vm.proofs.world.World.look_all.Given as goal
 
 abbrev pub invariant-loop-done : goal.invariant-loop-done

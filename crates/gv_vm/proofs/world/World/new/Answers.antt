@@ -2,7 +2,7 @@ use Rattle.std.proofs.Common.{ℕ, List, replicate, sym, ◌∙◌, ap, subst}
 use Rattle.gv_vm.specs.Queues.{AreQueues}
 use Rattle.gv_vm.specs.State.{VmState, new_vm}
 use Rattle.gv_vm.specs.World.{WorldState, QueueState, new_queue}
-use Rattle.gv_vm.proofs.Beginnings.{new_queues}
+use Rattle.gv_vm.proofs.NewWorlds.{new_queues}
 use Rattle.gv_vm.proofs.world.World.new.Goals as goal
 
 pub invariant_of-result : goal.invariant_of-result

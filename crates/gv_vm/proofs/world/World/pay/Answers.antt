@@ -5,12 +5,12 @@ use Rattle.gv_vm.specs.World.{WorldState, QueueState, queue_at, with_queue, next
 use Rattle.gv_vm.specs.WorldInside.{world_of}
 use Rattle.gv_vm.specs.Queues.{IsQueueOf}
 use Rattle.gv_vm.specs.Step.{step}
-use Rattle.gv_vm.specs.Turns.{PaidFirst}
+use Rattle.gv_vm.specs.QueueEvents.{PaidFirst}
 use Rattle.gv_vm.specs.declared.event.Event.TheVariants.{Pay}
 use Rattle.gv_vm.specs.declared.event.Reply.TheVariants.{Raised}
-use Rattle.gv_vm.proofs.Worlds.{IsOf, AreQueues-one}
-use Rattle.gv_vm.proofs.Stepping.{queue_read, paid}
-use Rattle.gv_vm.proofs.Turning.{IsQueueOf-paid, paid_timeline}
+use Rattle.gv_vm.proofs.AllQueuesInvariant.{IsOf, AreQueues-one}
+use Rattle.gv_vm.proofs.TurnsAreSteps.{queue_read, paid}
+use Rattle.gv_vm.proofs.QueueInvariant.{IsQueueOf-paid, paid_timeline}
 use Rattle.gv_vm.proofs.world.World.pay.Goals as goal
 
 pub raise-now-requires : goal.raise-now-requires

@@ -5,7 +5,7 @@ use Rattle.gv_vm.specs.World.{WorldState, QueueState, queue_at, with_queue}
 use Rattle.gv_vm.specs.WorldInside.{world_of}
 use Rattle.gv_vm.specs.Step.{IsStep}
 use Rattle.gv_vm.specs.declared.event.Event.TheVariants.{Put}
-use Rattle.gv_vm.proofs.Stepping.{queue_read, PutCameTo, put_keeps, put_answers}
+use Rattle.gv_vm.proofs.TurnsAreSteps.{queue_read, PutCameTo, put_keeps, put_answers}
 use Rattle.gv_vm.proofs.world.World.put.Goals as goal
 
 pub invariant_of-self : goal.invariant_of-self

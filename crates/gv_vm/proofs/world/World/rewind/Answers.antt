@@ -2,8 +2,8 @@ use Rattle.std.proofs.Common.{ap}
 use Rattle.gv_vm.specs.State.{VmState}
 use Rattle.gv_vm.specs.World.{WorldState}
 use Rattle.gv_vm.specs.WorldInside.{world_of}
-use Rattle.gv_vm.proofs.Limited.{limits-rewound, same_space}
-use Rattle.gv_vm.proofs.Calling.{vm_keeps}
+use Rattle.gv_vm.proofs.SameLimits.{limits-rewound, same_space}
+use Rattle.gv_vm.proofs.AfterVmCall.{vm_keeps}
 use Rattle.gv_vm.proofs.world.World.rewind.Goals as goal
 
 pub invariant_of-self : goal.invariant_of-self

@@ -2,7 +2,7 @@ use Rattle.std.proofs.Common.{◌≡◌, ◌∷◌, [], ◌++◌, List, length, 
 use Rattle.std.specs.Vec.Iter.{into_iter_items}
 use Rattle.gv_vm.specs.Headline.{Says, Headline}
 use Rattle.gv_vm.specs.declared.event.Reply.{Reply}
-use Rattle.gv_vm.proofs.Running.{RunsWith-more}
+use Rattle.gv_vm.proofs.EventRuns.{RunsWith-more}
 use Rattle.gv_vm.proofs.world.World.run_events.Goals as goal
 
 pub returns-in-Err-clause-stopped : goal.returns-in-Err-clause-stopped

@@ -14,22 +14,22 @@ loop-done-init c = record {
 
 pub loop-done-preserved : goal.loop-done-preserved
 loop-done-preserved c =
-    let left = c.args.number - c.next_number-told.result - c.loop-done.done in
+    let remaining = c.args.number - c.next_number-told.result - c.loop-done.done in
     let e : c.is_earlier.result ≡ true = search rules in
     record {
       rest = λ result new turns.
           c.loop-done.invariant.rest result new
-          (turned_on left c.args.queue c.args.number c.loop-done.self c.turn-turn.new.self new c.turn-turn.result result (omega arith) c.turn-turn.ensures (sym c.is_earlier.ensures ∙ e)
-          (let s : c.args.number - c.next_number-told.result - (c.loop-done.done + 1) ≡ left - 1 = omega arith in subst (λ (n : ℕ). AreTurns n c.args.queue c.args.number c.turn-turn.new.self result new) s turns));
+          (turned_on remaining c.args.queue c.args.number c.loop-done.self c.turn-turn.new.self new c.turn-turn.result result (omega arith) c.turn-turn.ensures (sym c.is_earlier.ensures ∙ e)
+          (let s : c.args.number - c.next_number-told.result - (c.loop-done.done + 1) ≡ remaining - 1 = omega arith in subst (λ (n : ℕ). AreTurns n c.args.queue c.args.number c.turn-turn.new.self result new) s turns));
     }
 
 pub returns-then-not-is_earlier : goal.returns-then-not-is_earlier
 returns-then-not-is_earlier c =
-    let left = c.args.number - c.next_number-told.result - c.loop-done.done in
+    let remaining = c.args.number - c.next_number-told.result - c.loop-done.done in
     let e : c.is_earlier.result ≡ false = search rules in
     served_now c.args.queue c.args.number c.next_number-told.result c.args.self.now c.turn-turn.new.self c.turn-turn.result c.next_number-told.ensures (omega arith)
     (c.loop-done.invariant.rest c.turn-turn.result c.turn-turn.new.self
-    (turned_last left c.args.queue c.args.number c.loop-done.self c.turn-turn.new.self c.turn-turn.result (omega arith) c.turn-turn.ensures (sym c.is_earlier.ensures ∙ e)))
+    (turned_last remaining c.args.queue c.args.number c.loop-done.self c.turn-turn.new.self c.turn-turn.result (omega arith) c.turn-turn.ensures (sym c.is_earlier.ensures ∙ e)))
 
 pub returns : goal.returns
 returns c =

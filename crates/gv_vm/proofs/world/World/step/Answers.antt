@@ -2,7 +2,7 @@ use Rattle.std.proofs.Common.{subst}
 use Rattle.gv_vm.specs.State.{IsVm}
 use Rattle.gv_vm.specs.World.{WorldState}
 use Rattle.gv_vm.proofs.Headlines.{said}
-use Rattle.gv_vm.proofs.Rising.{none_falls}
+use Rattle.gv_vm.proofs.TimelinesRise.{none_falls}
 use Rattle.gv_vm.proofs.world.World.step.Goals as goal
 
 pub returns-clause-says : goal.returns-clause-says

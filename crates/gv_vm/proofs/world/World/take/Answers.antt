@@ -3,13 +3,13 @@ use Rattle.gv_vm.specs.World.{WorldState, QueueState, queue_at, with_queue, next
 use Rattle.gv_vm.specs.WorldInside.{world_of}
 use Rattle.gv_vm.specs.Queues.{AreQueues}
 use Rattle.gv_vm.specs.Step.{step}
-use Rattle.gv_vm.specs.Turns.{TookFront, MayTake}
+use Rattle.gv_vm.specs.QueueEvents.{TookFront, MayTake}
 use Rattle.gv_vm.specs.declared.event.Event.TheVariants.{Take}
 use Rattle.gv_vm.specs.declared.event.Reply.{Reply}
 use Rattle.gv_vm.specs.declared.event.Reply.TheVariants.{Taken}
-use Rattle.gv_vm.proofs.Worlds.{AreQueues-with_queue}
-use Rattle.gv_vm.proofs.Stepping.{queue_read, same_world, took, not_taken}
-use Rattle.gv_vm.proofs.Turning.{IsQueueOf-took}
+use Rattle.gv_vm.proofs.AllQueuesInvariant.{AreQueues-with_queue}
+use Rattle.gv_vm.proofs.TurnsAreSteps.{queue_read, same_world, took, not_taken}
+use Rattle.gv_vm.proofs.QueueInvariant.{IsQueueOf-took}
 use Rattle.gv_vm.proofs.world.World.take.Goals as goal
 use Rattle.gv_vm.proofs.world.World.take.Goals.{then-take, else-take}
 

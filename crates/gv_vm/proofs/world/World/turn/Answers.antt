@@ -13,7 +13,7 @@ returns-then-not-pay_all c =
     let paid = rw e at c.pay_all.ensures in
     record {
       replies = paid.0;
-      carried_out = carried_out (turning c.args.gives_up c.args.queue q) nothing _ _ _ refl (paid.2 q.owed (going_on c.args.gives_up c.args.queue q.hand q.waiting) c.ahead-owed.ensures.owed);
+      carried_out = carried_out (turning c.args.gives_up c.args.queue q) nothing _ _ _ refl (paid.2 q.owed (going_on c.args.gives_up c.args.queue q.hand q.waiting) c.next_turn-owed.ensures.owed);
       came = sym (quiet_idle paid.0 paid.1);
     }
 
@@ -25,7 +25,7 @@ returns-in-None c =
     let next = going_on c.args.gives_up c.args.queue q.hand q.waiting in
     record {
       replies = paid.0;
-      carried_out = carried_out (turning c.args.gives_up c.args.queue q) next _ _ _ (nothing_left c.args.gives_up c.args.queue q.hand q.waiting (rw c.in-None.is at c.ahead-owed.ensures.left)) (paid.2 q.owed next c.ahead-owed.ensures.owed);
+      carried_out = carried_out (turning c.args.gives_up c.args.queue q) next _ _ _ (nothing_left c.args.gives_up c.args.queue q.hand q.waiting (rw c.in-None.is at c.next_turn-owed.ensures.remaining)) (paid.2 q.owed next c.next_turn-owed.ensures.owed);
       came = sym (quiet_idle paid.0 paid.1);
     }
 
@@ -34,5 +34,5 @@ returns-in-Some c =
     let q = queue_at c.args.self.now c.args.queue in
     let e : c.pay_all.result ≡ true = search rules in
     let paid = rw e at c.pay_all.ensures in
-    paid_on c.args.gives_up c.args.queue c.args.self.now c.pay_all.new.self c.go_on.new.self c.in-Some.left paid.0 paid.1 (paid.2 q.owed (going_on c.args.gives_up c.args.queue q.hand q.waiting) c.ahead-owed.ensures.owed)
-    c.go_on.result (rw c.in-Some.is at c.ahead-owed.ensures.left) c.go_on.ensures.went c.go_on.ensures.stopped
+    paid_on c.args.gives_up c.args.queue c.args.self.now c.pay_all.new.self c.go_on.new.self c.in-Some.remaining paid.0 paid.1 (paid.2 q.owed (going_on c.args.gives_up c.args.queue q.hand q.waiting) c.next_turn-owed.ensures.owed)
+    c.go_on.result (rw c.in-Some.is at c.next_turn-owed.ensures.remaining) c.go_on.ensures.went c.go_on.ensures.stopped

@@ -4,7 +4,7 @@ use Rattle.gv_sync.specs.Sights.{Sight}
 use Rattle.gv_vm.specs.World.{HandState}
 use Rattle.gv_vm.specs.BindOutcome.{IsBoundAndTold, seen_by}
 use Rattle.gv_vm.specs.Step.{owed_for}
-use Rattle.gv_vm.proofs.Stepping.{owed_last_first}
+use Rattle.gv_vm.proofs.TurnsAreSteps.{owed_last_first}
 use Rattle.gv_vm.proofs.world.requests.bind_hand.Goals as goal
 
 pub returns-in-Ok-bind-clause-carried : goal.returns-in-Ok-bind-clause-carried

@@ -1,5 +1,0 @@
-use Rattle.std.proofs.Common.{length}
-use Rattle.gv_serve.proofs.spoken.Speaker.hear.Given as goal
-
-abbrev pub decreases-loop-front : goal.decreases-loop-front
-decreases-loop-front g l = length l.rest

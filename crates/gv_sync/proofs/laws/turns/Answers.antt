@@ -1,8 +1,0 @@
-use Rattle.gv_sync.proofs.Turns.{none_yet, one_more}
-use Rattle.gv_sync.proofs.laws.turns.Goals as goal
-
-pub returns-clause-none : goal.returns-clause-none
-returns-clause-none c = none_yet
-
-pub returns-clause-one_more : goal.returns-clause-one_more
-returns-clause-one_more c = one_more
