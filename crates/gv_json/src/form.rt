@@ -1,4 +1,5 @@
-//! A reply's line written as members of JSON, as a form of `forms` says.
+//! A reply's line written as members of JSON, as a form says.
+use crate::forms::{Form, Kind};
 use crate::object::Json;
 use crate::stop::Stop;
 use crate::words::Words;
@@ -12,94 +13,75 @@ const LEVELS: u32 = 5;
 pub fn write_line(
     json: &mut Json,
     number: Option<&str>,
-    forms: &str,
+    forms: &[Form],
     line: &str,
 ) -> Result<(), Stop> {
     let mut words = Words::new(line);
     if let Some(key) = number {
         json.number(key, words.number()?)?;
     }
-    let form = form_of(forms, &words)?;
+    let form = form_of(forms, words.peek()?)?;
     write_members(json, &mut words, form)?;
     words.end()
 }
 
-/// The one of some forms whose first part the next word may be.
-fn form_of<'a>(forms: &'a str, words: &Words<'_>) -> Result<&'a str, Stop> {
-    for form in forms.split('\n') {
-        let (first, _) = form.split_once(' ').unwrap_or((form, ""));
-        if first.contains(':') || words.begin_with(first) {
-            return Ok(form);
+/// The first of some forms that may begin with this word.
+fn form_of(forms: &[Form], first: &str) -> Result<Form, Stop> {
+    for form in forms {
+        if may_begin_with(form, first) {
+            return Ok(*form);
         }
     }
     Err(Stop::NotUnderstood)
 }
 
-fn write_members(json: &mut Json, words: &mut Words<'_>, form: &str) -> Result<(), Stop> {
+fn may_begin_with(form: Form, first: &str) -> bool {
+    match form.first() {
+        Some((Kind::Word, word)) => *word == first,
+        _ => true,
+    }
+}
+
+fn write_members(json: &mut Json, words: &mut Words<'_>, form: Form) -> Result<(), Stop> {
     let mut is_left_out = false;
-    for part in form.split(' ') {
+    for (kind, key) in form {
         if is_left_out {
-            is_left_out = part != "}";
+            is_left_out = !matches!(*kind, Kind::Close);
+        } else if matches!(*kind, Kind::ObjectOrNull) && words.take_none() {
+            json.key(key)?;
+            json.null()?;
+            is_left_out = true;
         } else {
-            is_left_out = write_part(json, words, part)?;
+            write_part(json, words, *kind, key)?;
         }
     }
     Ok(())
 }
 
-/// Writes a part of a form, and gives whether the parts up to `}` are left out.
-fn write_part(json: &mut Json, words: &mut Words<'_>, part: &str) -> Result<bool, Stop> {
-    let Some((key, kind)) = part.split_once(':') else {
-        write_mark(json, words, part)?;
-        return Ok(false);
-    };
-    match kind.bytes().next().unwrap_or(b' ') {
-        b'{' => Ok(open(json, key, false)?),
-        b'?' => Ok(open(json, key, words.take_none())?),
-        letter => {
-            write_member(json, words, key, letter)?;
-            Ok(false)
-        }
-    }
-}
-
-/// Closes an object, or takes a word.
-fn write_mark(json: &mut Json, words: &mut Words<'_>, mark: &str) -> Result<(), Stop> {
-    if mark == "}" {
-        Ok(json.close_object()?)
-    } else {
-        words.expect(mark)
-    }
-}
-
-/// Opens an object under a key, or writes null, and gives whether it did.
-fn open(json: &mut Json, key: &str, is_null: bool) -> Result<bool, AllocError> {
-    json.key(key)?;
-    if is_null {
-        json.null()?;
-    } else {
-        json.open_object()?;
-    }
-    Ok(is_null)
-}
-
-/// Writes a member of the kind of a letter.
-fn write_member(json: &mut Json, words: &mut Words<'_>, key: &str, letter: u8) -> Result<(), Stop> {
-    let written = match letter {
-        b't' => json.flag(key, true),
-        b'k' => json.flag(key, words.take_if(key)),
-        b'f' => json.flag(key, words.either("ro", "rw")?),
-        b'w' => json.flag(key, words.either("live", "withdrawn")?),
-        b's' => json.text(key, words.take()?),
-        b'n' => json.number(key, words.number()?),
-        b'o' => write_number_if(json, words, key),
-        b'a' => json.address(key, words.hex()?),
-        b'x' => json.address(key, words.address()?),
-        b'z' => return write_target(json, words),
-        b'5' => return write_tables(json, words, key),
-        _ => return Err(Stop::NotUnderstood),
+/// Writes a part of a form, which is there.
+fn write_part(json: &mut Json, words: &mut Words<'_>, kind: Kind, key: &str) -> Result<(), Stop> {
+    let written = match kind {
+        Kind::Word => return words.expect(key),
+        Kind::Place => return write_place(json, words),
+        Kind::Mapping => return write_mapping(json, words),
+        Kind::Tables => return write_tables(json, words, key),
+        Kind::Number => json.number(key, words.number()?),
+        Kind::NumberIfAny => write_number_if(json, words, key),
+        Kind::Text => json.text(key, words.take()?),
+        Kind::Address => json.address(key, words.address()?),
+        Kind::True => json.flag(key, true),
+        Kind::Given => json.flag(key, words.take_if(key)),
+        Kind::Live => json.flag(key, words.either("live", "withdrawn")?),
+        Kind::Object | Kind::ObjectOrNull => open(json, key),
+        Kind::Close => json.close_object(),
     };
     Ok(written?)
+}
+
+/// Opens an object under a key.
+fn open(json: &mut Json, key: &str) -> Result<(), AllocError> {
+    json.key(key)?;
+    json.open_object()
 }
 
 fn write_number_if(json: &mut Json, words: &mut Words<'_>, key: &str) -> Result<(), AllocError> {
@@ -109,13 +91,21 @@ fn write_number_if(json: &mut Json, words: &mut Words<'_>, key: &str) -> Result<
     }
 }
 
-/// Writes what a mapping leads to.
-fn write_target(json: &mut Json, words: &mut Words<'_>) -> Result<(), Stop> {
+/// Writes what a mapping leads to, and whether it is read-only.
+fn write_place(json: &mut Json, words: &mut Words<'_>) -> Result<(), Stop> {
     if words.take_if("zero") {
-        return Ok(json.flag("zero", true)?);
+        json.flag("zero", true)?;
+    } else {
+        json.text("buffer", words.take()?)?;
+        json.address("offset", words.hex()?)?;
     }
-    json.text("buffer", words.take()?)?;
-    Ok(json.address("offset", words.hex()?)?)
+    Ok(json.flag("ro", words.either("ro", "rw")?)?)
+}
+
+fn write_mapping(json: &mut Json, words: &mut Words<'_>) -> Result<(), Stop> {
+    json.address("start", words.hex()?)?;
+    json.address("end", words.hex()?)?;
+    write_place(json, words)
 }
 
 /// Writes how many tables there are, from the highest level down.

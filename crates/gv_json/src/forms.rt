@@ -1,51 +1,119 @@
-//! The forms of replies' lines, as text.
-//!
-//! A form is a line of parts with a space between them. A part `KEY:KIND` is a member, and its kind says what a reply's words are of it:
-//! - `n` a number, `o` a number or nothing, which is no member
-//! - `s` text
-//! - `a` an address of sixteen digits, `x` one behind `0x`
-//! - `t` nothing, which is true
-//! - `k` the key itself or nothing, which is true or false
-//! - `f` `ro` or `rw`, and `w` `live` or `withdrawn`, which are true or false
-//! - `z` `zero`, or a buffer's name and an offset, which are members themselves
-//! - `5` the number of tables at each of five levels
-//! - `{` an object of the members up to `}`, and `?{` such an object or `none`, which is null
-//!
-//! Any other part is a word of the reply.
+//! The forms of replies' lines.
+use Kind::{
+    Address, Close, Given, Live, Mapping, Number, NumberIfAny, Object, ObjectOrNull, Place, Tables,
+    Text, True, Word,
+};
+
+/// What a part of a form says of a line's words.
+#[derive(Clone, Copy)]
+pub enum Kind {
+    /// The part's word, which is no member.
+    Word,
+    /// A number.
+    Number,
+    /// A number, or nothing, which is no member.
+    NumberIfAny,
+    /// A word.
+    Text,
+    /// A hexadecimal number behind `0x`.
+    Address,
+    /// Nothing. The member is true.
+    True,
+    /// The member's key, or nothing: true or false.
+    Given,
+    /// `live` or `withdrawn`: true or false.
+    Live,
+    /// `zero`, or a buffer's name and an offset, and then `ro` or `rw`. The members have keys of their own.
+    Place,
+    /// The addresses where a mapping begins and ends, and its place. The members have keys of their own.
+    Mapping,
+    /// The number of tables at each of five levels.
+    Tables,
+    /// An object of the parts up to `Close`.
+    Object,
+    /// Such an object, or `none`, which is null.
+    ObjectOrNull,
+    Close,
+}
+
+/// A kind with the key of the member, or the word.
+pub type Part = (Kind, &'static str);
+
+/// The parts of a line.
+pub type Form = &'static [Part];
 
 /// What a line did.
-pub const OUTCOME: &str = "\
-ok ok:t
-idle idle:t
-trimmed trimmed:t
-accepted accepted:n
-put put:n
-rewound rewound:n
-settled settled:n
-forgot forgot:n
-ended ended:n
-uses uses:n kept kept:n
-withdrawn withdrawn:n as as:n
-refused refused:{ op:o fault:s number:o }
-notready notready:{ timeline:s value:n have have:n }
-waits waits:{ timeline:s value:n have have:n }";
+pub const OUTCOME: &[Form] = &[
+    &[(Word, "ok"), (True, "ok")],
+    &[(Word, "idle"), (True, "idle")],
+    &[(Word, "trimmed"), (True, "trimmed")],
+    &[(Word, "accepted"), (Number, "accepted")],
+    &[(Word, "put"), (Number, "put")],
+    &[(Word, "rewound"), (Number, "rewound")],
+    &[(Word, "settled"), (Number, "settled")],
+    &[(Word, "forgot"), (Number, "forgot")],
+    &[(Word, "ended"), (Number, "ended")],
+    &[
+        (Word, "uses"),
+        (Number, "uses"),
+        (Word, "kept"),
+        (Number, "kept"),
+    ],
+    &[
+        (Word, "withdrawn"),
+        (Number, "withdrawn"),
+        (Word, "as"),
+        (Number, "as"),
+    ],
+    &[
+        (Word, "refused"),
+        (Object, "refused"),
+        (NumberIfAny, "op"),
+        (Text, "fault"),
+        (NumberIfAny, "number"),
+        (Close, ""),
+    ],
+    &[
+        (Word, "notready"),
+        (Object, "notready"),
+        (Text, "timeline"),
+        (Number, "value"),
+        (Word, "have"),
+        (Number, "have"),
+        (Close, ""),
+    ],
+    &[
+        (Word, "waits"),
+        (Object, "waits"),
+        (Text, "timeline"),
+        (Number, "value"),
+        (Word, "have"),
+        (Number, "have"),
+        (Close, ""),
+    ],
+];
 
 /// What is mapped at an address.
-pub const REACHED: &str = "place:?{ zero:z ro:f }";
+pub const REACHED: &[Form] = &[&[(ObjectOrNull, "place"), (Place, ""), (Close, "")]];
 
 /// A timeline and its number.
-pub const VALUE: &str = "timeline:s value:n";
+pub const VALUE: &[Form] = &[&[(Text, "timeline"), (Number, "value")]];
 
-pub const TABLES: &str = "tables:5";
+pub const TABLES: &[Form] = &[&[(Tables, "tables")]];
 
 /// The item that an item withdrew.
-pub const WITHDRAWAL: &str = "withdrawal of withdrawal:n";
+pub const WITHDRAWAL: &[Form] = &[&[(Word, "withdrawal"), (Word, "of"), (Number, "withdrawal")]];
 
 /// The first line of the reply to `job`.
-pub const JOB: &str = "job job:n";
+pub const JOB: &[Form] = &[&[(Word, "job"), (Number, "job")]];
 
 /// The last line of the reply to `past`.
-pub const UNDER: &str = "under under:?{ zero:z ro:f }";
+pub const UNDER: &[Form] = &[&[
+    (Word, "under"),
+    (ObjectOrNull, "under"),
+    (Place, ""),
+    (Close, ""),
+]];
 
 /// Lines that stand in a list.
 #[derive(Clone, Copy)]
@@ -55,22 +123,28 @@ pub struct Rows {
     /// The key of the number that each line begins with, if it begins with one.
     pub number: Option<&'static str>,
     /// The forms that a line may have.
-    pub forms: &'static str,
+    pub forms: &'static [Form],
 }
 
 pub const MAPPINGS: Rows = Rows {
     key: "mappings",
     number: None,
-    forms: "start:a end:a zero:z ro:f",
+    forms: &[&[(Mapping, "")]],
 };
 
 /// Items of the journal.
 pub const ITEMS: Rows = Rows {
     key: "items",
     number: Some("item"),
-    forms: "\
-bind queue:n number:n live:w
-withdrawal of withdrawal:n",
+    forms: &[
+        &[
+            (Word, "bind"),
+            (Number, "queue"),
+            (Number, "number"),
+            (Live, "live"),
+        ],
+        &[(Word, "withdrawal"), (Word, "of"), (Number, "withdrawal")],
+    ],
 };
 
 /// What a queue was told.
@@ -84,34 +158,82 @@ pub const OUTCOMES: Rows = Rows {
 pub const STEPS: Rows = Rows {
     key: "steps",
     number: None,
-    forms: "\
-map map:{ start:a end:a zero:z ro:f }
-unmap unmap:{ start:a end:a zero:z ro:f } keep:k
-remap remap:{ start:a end:a zero:z ro:f } \
-prev prev:?{ start:a end:a zero:z ro:f } next next:?{ start:a end:a zero:z ro:f } keep:k",
+    forms: &[
+        &[(Word, "map"), (Object, "map"), (Mapping, ""), (Close, "")],
+        &[
+            (Word, "unmap"),
+            (Object, "unmap"),
+            (Mapping, ""),
+            (Close, ""),
+            (Given, "keep"),
+        ],
+        &[
+            (Word, "remap"),
+            (Object, "remap"),
+            (Mapping, ""),
+            (Close, ""),
+            (Word, "prev"),
+            (ObjectOrNull, "prev"),
+            (Mapping, ""),
+            (Close, ""),
+            (Word, "next"),
+            (ObjectOrNull, "next"),
+            (Mapping, ""),
+            (Close, ""),
+            (Given, "keep"),
+        ],
+    ],
 };
 
 /// Operations as `bind` reads them.
 pub const OPERATIONS: Rows = Rows {
     key: "operations",
     number: None,
-    forms: "\
-map map:{ addr:x len:x buffer:s offset:x ro:k }
-zero zero:{ addr:x len:x ro:k }
-unmap unmap:{ addr:x len:x }
-unmapall unmapall:s",
+    forms: &[
+        &[
+            (Word, "map"),
+            (Object, "map"),
+            (Address, "addr"),
+            (Address, "len"),
+            (Text, "buffer"),
+            (Address, "offset"),
+            (Given, "ro"),
+            (Close, ""),
+        ],
+        &[
+            (Word, "zero"),
+            (Object, "zero"),
+            (Address, "addr"),
+            (Address, "len"),
+            (Given, "ro"),
+            (Close, ""),
+        ],
+        &[
+            (Word, "unmap"),
+            (Object, "unmap"),
+            (Address, "addr"),
+            (Address, "len"),
+            (Close, ""),
+        ],
+        &[(Word, "unmapall"), (Text, "unmapall")],
+    ],
 };
 
 /// Where a job's accesses lead.
 pub const PLACES: Rows = Rows {
     key: "places",
     number: None,
-    forms: "zero:z ro:f",
+    forms: &[&[(Place, "")]],
 };
 
 /// What items say of an address.
 pub const PAST: Rows = Rows {
     key: "past",
     number: Some("item"),
-    forms: "live:w place:?{ zero:z ro:f }",
+    forms: &[&[
+        (Live, "live"),
+        (ObjectOrNull, "place"),
+        (Place, ""),
+        (Close, ""),
+    ]],
 };

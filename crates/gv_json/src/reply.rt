@@ -1,7 +1,8 @@
 //! A line of JSON for each reply.
 use crate::form::write_line;
 use crate::forms::{
-    ITEMS, MAPPINGS, OPERATIONS, OUTCOME, OUTCOMES, REACHED, Rows, STEPS, TABLES, VALUE, WITHDRAWAL,
+    Form, ITEMS, MAPPINGS, OPERATIONS, OUTCOME, OUTCOMES, REACHED, Rows, STEPS, TABLES, VALUE,
+    WITHDRAWAL,
 };
 use crate::list::{write_job, write_list, write_past};
 use crate::object::Json;
@@ -13,7 +14,7 @@ use std::alloc::{AllocError, Global};
 #[derive(Clone, Copy)]
 enum Reply {
     /// One line of one of these forms.
-    Line(&'static str),
+    Line(&'static [Form]),
     List(Rows),
     Job,
     Past,

@@ -33,10 +33,10 @@ impl<'a> Words<'a> {
         }
     }
 
-    /// Whether the next word is this one.
-    pub fn begin_with(&self, word: &str) -> bool {
+    /// The next word, which stays.
+    pub fn peek(&self) -> Result<&'a str, Stop> {
         let mut ahead = *self;
-        ahead.expect(word).is_ok()
+        ahead.take()
     }
 
     /// Whether the next word is sixteen hexadecimal digits.
