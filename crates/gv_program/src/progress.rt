@@ -16,7 +16,7 @@ const APART: u64 = 500;
 /// What takes away a line of a terminal.
 const WIPE: &str = "\r\x1b[K";
 
-/// Who is told how far it is: whoever sits before standard error, if it is a terminal and quiet isn't asked for.
+/// Tells how far the reading is on standard error, if that is a terminal and quiet isn't asked for.
 #[derive(Drop)]
 pub struct ProgressReporter<'a, R> {
     rt: &'a R,
@@ -110,7 +110,7 @@ pub struct ReportedSource<'a, 's, R, S> {
     rt: &'a R,
     source: &'s mut S,
     progress: Progress,
-    /// When the first read began, if it is told, and when it was told last.
+    /// When the reading began, if it is told, and when it was told last.
     began: Option<u64>,
     told: Option<u64>,
     has_failed: bool,

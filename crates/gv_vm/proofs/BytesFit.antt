@@ -25,14 +25,14 @@ lives : (P : ℕ → Type 0) (o : Option Buffer) → IsSomeAnd (option_map (λ b
 lives P None h = absurd h
 lives P (Some b) h = refl
 
-past_none : (t : BuffersState) (id : BufferId) (end : ℕ) → IsTable t → IsSomeAnd (pages t id) (λ size. end ≤ size) → end ≤ pages_per_buffer
-past_none t id end table inside =
+end_fits : (t : BuffersState) (id : BufferId) (end : ℕ) → IsTable t → IsSomeAnd (pages t id) (λ size. end ≤ size) → end ≤ pages_per_buffer
+end_fits t id end table inside =
     let found : IsFound t id (IsBuffer t.made) = found_live (IsBuffer t.made) t id table.buffers (lives (λ size. end ≤ size) (buffer t id) inside) in
     let within : end ≤ found.b.pages = rw found.found at inside in
     omega (arith, found.holds.few_pages)
 
 BytesFit-inside : (t : BuffersState) (backing : Backing) (count rest : ℕ) → IsTable t → rest < count → LieInside t backing count → BytesFit (advanced backing rest)
-BytesFit-inside t (BufferPages id page) count rest table less inside = omega (arith, past_none t id (page + count) table inside)
+BytesFit-inside t (BufferPages id page) count rest table less inside = omega (arith, end_fits t id (page + count) table inside)
 BytesFit-inside t ZeroPages count rest table less inside = tt
 
 rest_less : (m : Mapping) (page : ℕ) → covers m.range page ≡ true → page - m.range.first < m.range.count
@@ -52,6 +52,6 @@ BytesFit-at a t (m ∷ ms) page e table valid is =
       | false ↦ (λ _ found. BytesFit-at a t ms page e table (All-tail (IsValidMapping a t) m ms valid) found)
     ] refl is
 
--- what a page of an address space holds has bytes
+-- what a page of an address space holds has bytes whose numbers fit
 pub BytesFit-held : (s : SpaceState) (page : ℕ) (e : Entry) → IsSpace s → at s.mappings page ≡ Some e → BytesFit e.backing
 BytesFit-held s page e space is = BytesFit-at s.area s.buffers s.mappings page e space.buffers space.valid is

@@ -128,10 +128,10 @@ IsVm-bound v t j limit queue number request sights outcome told forgotten holds 
     (came_saw (roomless v.space) (roomless t) v.journal j queue number request (seen_by sights) outcome came saw holds.waits_were_reached)
     (length-set v.told queue (told_to v.told queue ++ outcome ∷ []) ∙ holds.queues) holds.forgotten))
 
-abbrev made : Unit {0} → Result (Unit {0}) Fault
-made u = Ok u
+abbrev prepared_ok : Unit {0} → Result (Unit {0}) Fault
+prepared_ok u = Ok u
 
 -- where `prepare` answers Ok there was no fault
-pub none_if_prepared : (o : Option Fault) (u : Unit {0}) → MatchOption o ⊤ (λ fault. made u ≡ Err fault) → o ≡ None
+pub none_if_prepared : (o : Option Fault) (u : Unit {0}) → MatchOption o ⊤ (λ fault. prepared_ok u ≡ Err fault) → o ≡ None
 none_if_prepared None u h = refl
 none_if_prepared (Some fault) u h = cc

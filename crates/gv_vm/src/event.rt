@@ -52,6 +52,7 @@ pub enum Reply {
     Created { id: BufferId },
     Destroyed,
     Rewound { item: u64 },
+    /// The withdrawal itself is the item of this number.
     Withdrawn { item: u64 },
     Settled { count: u64 },
     Forgot { count: u64 },

@@ -49,8 +49,8 @@ fn put_by(op: &PageOp) -> Option<Mapping> {
     }
 }
 
-/// Whether an operation puts in what goes on from a mapping.
-fn is_kept(mapping: &Mapping, op: &PageOp) -> bool {
+/// Whether the step of a mapping bears `keep`: the operation puts in what goes on from it.
+fn has_keep(mapping: &Mapping, op: &PageOp) -> bool {
     match put_by(op) {
         Some(own) => goes_on(mapping, &own),
         None => false,
@@ -80,7 +80,7 @@ pub fn write_steps(
         for mapping in list {
             if mapping.range.meets(range) {
                 write_taken(alloc, out, names, mapping, range)?;
-                out.push_str(if is_kept(mapping, op) {
+                out.push_str(if has_keep(mapping, op) {
                     " keep\n"
                 } else {
                     "\n"

@@ -1,4 +1,4 @@
-//! The events that are calls on the machine or on its timelines.
+//! The events that are calls: on the machine, and the raise of a timeline.
 ghost use Rattle.std.specs.Prelude.{◌≡◌, ◌≢◌, IfOk, OnOk, OnErr};
 
 use super::World;

@@ -12,5 +12,5 @@ invariant_of-result c =
     let queues : List QueueState = replicate sizes.queues new_queue in
     let machine = ap (λ (v : VmState). let w : WorldState = record { vm = v; numbers = c.in_ok-clock.clock; depth = sizes.depth; queues = c.in_ok-queues.queues.items } in w) c.in-Ok.ensures in
     let numbers = ap (λ (ns : List ℕ). let w : WorldState = record { vm = new_vm c.args.bounds c.args.limits; numbers = ns; depth = sizes.depth; queues = c.in_ok-queues.queues.items } in w) c.in_ok-clock.ensures.zero in
-    let asked = ap (λ (qs : List QueueState). let w : WorldState = record { vm = new_vm c.args.bounds c.args.limits; numbers = timelines; depth = sizes.depth; queues = qs } in w) c.in_ok-queues.ensures in
-    subst AreQueues (sym (machine ∙ numbers ∙ asked)) (new_queues c.args.bounds c.args.limits sizes.queues sizes.depth sizes.timelines c.requires.queues.1)
+    let empty_queues = ap (λ (qs : List QueueState). let w : WorldState = record { vm = new_vm c.args.bounds c.args.limits; numbers = timelines; depth = sizes.depth; queues = qs } in w) c.in_ok-queues.ensures in
+    subst AreQueues (sym (machine ∙ numbers ∙ empty_queues)) (new_queues c.args.bounds c.args.limits sizes.queues sizes.depth sizes.timelines c.requires.queues.1)
