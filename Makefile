@@ -33,9 +33,9 @@ run: ## runs the first example, built without proofs
 	@RT="$(RT)" tools/try run < examples/first.vmb
 	@echo '--- "make build" proves the program and leaves it at ./vmbind; "make try SCRIPT=my.vmb" runs your own script as this one'
 
-# Runs your own script. Standard output has the replies and nothing else.
+# Runs your own script, and says why a line is bad. Standard output has the replies and nothing else.
 SCRIPT ?= examples/first.vmb
-WORDS ?= run
+WORDS ?= run --explain
 try: ## runs SCRIPT=my.vmb, built without proofs
 	@RT="$(RT)" tools/try $(WORDS) < "$(SCRIPT)"
 
