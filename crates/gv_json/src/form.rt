@@ -20,26 +20,29 @@ pub fn write_line(
     if let Some(key) = number {
         json.number(key, words.number()?)?;
     }
-    let form = form_of(forms, words.peek()?)?;
+    let form = parts_of(forms, &mut words)?;
     write_members(json, &mut words, form)?;
     words.end()
 }
 
-/// The first of some forms that may begin with this word.
-fn form_of(forms: &[Form], first: &str) -> Result<Form, Stop> {
+/// The parts of the only form, or those behind the word that tells which form it is.
+fn parts_of(forms: &[Form], words: &mut Words<'_>) -> Result<Form, Stop> {
+    match forms.first() {
+        Some(form) if forms.len() == 1 => Ok(*form),
+        _ => behind(forms, words.take()?),
+    }
+}
+
+/// The parts behind the first one of the form that begins with this word. Of several forms each begins with a word of its own.
+fn behind(forms: &[Form], first: &str) -> Result<Form, Stop> {
     for form in forms {
-        if may_begin_with(form, first) {
-            return Ok(*form);
+        if let Some(((_, word), rest)) = form.split_first() {
+            if *word == first {
+                return Ok(rest);
+            }
         }
     }
     Err(Stop::NotUnderstood)
-}
-
-fn may_begin_with(form: Form, first: &str) -> bool {
-    match form.first() {
-        Some((Kind::Word, word)) => *word == first,
-        _ => true,
-    }
 }
 
 fn write_members(json: &mut Json, words: &mut Words<'_>, form: Form) -> Result<(), Stop> {

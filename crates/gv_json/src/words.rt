@@ -33,12 +33,6 @@ impl<'a> Words<'a> {
         }
     }
 
-    /// The next word, which stays.
-    pub fn peek(&self) -> Result<&'a str, Stop> {
-        let mut ahead = *self;
-        ahead.take()
-    }
-
     /// Whether the next word is sixteen hexadecimal digits.
     fn begin_with_hex(&self) -> bool {
         let mut ahead = *self;
