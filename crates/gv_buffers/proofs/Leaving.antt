@@ -27,17 +27,17 @@ left_by-left_by job (Some b) = rw users_without-twice refl
 -- one more index
 pub HaveLeft-more : (job : ℕ) (old mid new : SlotList) (indices : List ℕ) (index : ℕ) → HaveLeft job old mid indices →
     buffer_in new index ≡ option_map (left_by job) (buffer_in mid index) →
-    ((key : ℕ) → key ≢ index → get new key ≡ get mid key) → HaveLeft job old new (indices ++ index ∷ [])
+    ((other : ℕ) → other ≢ index → get new other ≡ get mid other) → HaveLeft job old new (indices ++ index ∷ [])
 HaveLeft-more job old mid new indices index before here others =
     let at_index : buffer_in new index ≡ option_map (left_by job) (buffer_in old index) =
     ⊎_elim (λ e. here ∙ ap (option_map (left_by job)) e ∙ left_by-left_by job (buffer_in old index))
     (λ e. here ∙ ap (option_map (left_by job)) e) (before.others index) in
-    let elsewhere = λ (key : ℕ) (apart : key ≢ index). ap (option_map (buffer_at key)) (others key apart) in
+    let elsewhere = λ (other : ℕ) (apart : other ≢ index). ap (option_map (buffer_at other)) (others other apart) in
     record {
-      noted = λ key among. ⊎_elim (λ (e : key ≡ index). rw e at_index)
-          (λ (apart : key ≢ index). elsewhere key apart ∙ ⊎_elim (λ at. before.noted key at) (λ e. absurd (apart (sym e))) (Contains-push_cases indices index key among))
-          (cases_eq key index);
-      others = λ key. ⊎_elim (λ (e : key ≡ index). inl (rw e at_index))
-          (λ (apart : key ≢ index). ⊎_elim (λ e. inl (elsewhere key apart ∙ e)) (λ e. inr (elsewhere key apart ∙ e)) (before.others key))
-          (cases_eq key index);
+      noted = λ other among. ⊎_elim (λ (e : other ≡ index). rw e at_index)
+          (λ (apart : other ≢ index). elsewhere other apart ∙ ⊎_elim (λ at. before.noted other at) (λ e. absurd (apart (sym e))) (Contains-push_cases indices index other among))
+          (cases_eq other index);
+      others = λ other. ⊎_elim (λ (e : other ≡ index). inl (rw e at_index))
+          (λ (apart : other ≢ index). ⊎_elim (λ e. inl (elsewhere other apart ∙ e)) (λ e. inr (elsewhere other apart ∙ e)) (before.others other))
+          (cases_eq other index);
     }

@@ -8,6 +8,7 @@ pub mod TablesAndSlots
 pub mod Conflicts
 pub mod NotedUsers
 pub mod Vacancy
+pub mod Keys
 pub mod MakeAndDestroy
 pub mod JoinAndLeave
 pub mod FoundLemmas

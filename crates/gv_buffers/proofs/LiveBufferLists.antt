@@ -146,8 +146,8 @@ find-buffers_from id i (suc k) (Some x ∷ xs) at =
     rw apart rest
 
 -- a buffer that is put into a free slot stands behind those of lower indexes that were there
-pub record IsPutIn (old new : List Buffer) (key : ℕ) (b : Buffer) : Type 0 where
-  pub list : new ≡ insert old (count_below key old) b
+pub record IsPutIn (old new : List Buffer) (index : ℕ) (b : Buffer) : Type 0 where
+  pub list : new ≡ insert old (count_below index old) b
 
 -- none of the buffers from an index on has a lower index
 count_below-above : (low i : ℕ) (xs : SlotList) → low ≤ i → count_below low (buffers_from i xs) ≡ 0
@@ -157,24 +157,24 @@ count_below-above low i (Some x ∷ xs) below =
     let past : nat_lt i low ≡ false = le-ltb _ _ below in
     rw past (count_below-above low (i + 1) xs (omega arith))
 
-put_in_none : (i key : ℕ) (slot : LiveBuffer) (ys : SlotList) → get_or ys key None ≡ Some slot → ((k : ℕ) → k ≢ key → get_or ys k None ≡ None) →
-    buffers_from i ys ≡ buffer_at (i + key) slot ∷ []
-put_in_none i key slot [] here others = absurd (none-some slot here)
+put_in_none : (i index : ℕ) (slot : LiveBuffer) (ys : SlotList) → get_or ys index None ≡ Some slot → ((k : ℕ) → k ≢ index → get_or ys k None ≡ None) →
+    buffers_from i ys ≡ buffer_at (i + index) slot ∷ []
+put_in_none i index slot [] here others = absurd (none-some slot here)
 put_in_none i zero slot (None ∷ ys) here others = absurd (none-some slot here)
 put_in_none i zero slot (Some y ∷ ys) here others =
     let first : y ≡ slot = same_Some _ _ here in
     let rest : buffers_from (i + 1) ys ≡ [] = buffers_from-none (i + 1) ys (λ k j e. ap (λ o. option_map (buffer_at j) o) (others (suc k) (omega arith))) in
     let start : i ≡ i + 0 = omega arith in
     rw (first, rest, ← start) refl
-put_in_none i (suc key) slot (None ∷ ys) here others =
-    let next : i + 1 + key ≡ i + suc key = omega arith in
-    rw (← next) (put_in_none (i + 1) key slot ys here (λ k apart. others (suc k) (omega arith)))
-put_in_none i (suc key) slot (Some y ∷ ys) here others = absurd (none-some y (sym (others 0 (omega arith))))
+put_in_none i (suc index) slot (None ∷ ys) here others =
+    let next : i + 1 + index ≡ i + suc index = omega arith in
+    rw (← next) (put_in_none (i + 1) index slot ys here (λ k apart. others (suc k) (omega arith)))
+put_in_none i (suc index) slot (Some y ∷ ys) here others = absurd (none-some y (sym (others 0 (omega arith))))
 
-pub put_in : (i key at : ℕ) (slot : LiveBuffer) (xs ys : SlotList) → at ≡ i + key → get_or xs key None ≡ None → get_or ys key None ≡ Some slot →
-    ((k : ℕ) → k ≢ key → get_or ys k None ≡ get_or xs k None) → IsPutIn (buffers_from i xs) (buffers_from i ys) at (buffer_at (i + key) slot)
-put_in i key at slot [] ys is free here others = record { list = put_in_none i key slot ys here others }
-put_in i key at slot (x ∷ xs) [] is free here others = absurd (none-some slot here)
+pub put_in : (i index at : ℕ) (slot : LiveBuffer) (xs ys : SlotList) → at ≡ i + index → get_or xs index None ≡ None → get_or ys index None ≡ Some slot →
+    ((k : ℕ) → k ≢ index → get_or ys k None ≡ get_or xs k None) → IsPutIn (buffers_from i xs) (buffers_from i ys) at (buffer_at (i + index) slot)
+put_in i index at slot [] ys is free here others = record { list = put_in_none i index slot ys here others }
+put_in i index at slot (x ∷ xs) [] is free here others = absurd (none-some slot here)
 put_in i zero at slot (None ∷ xs) (None ∷ ys) is free here others = absurd (none-some slot here)
 put_in i zero at slot (None ∷ xs) (Some y ∷ ys) is free here others =
     let first : y ≡ slot = same_Some _ _ here in
@@ -184,15 +184,15 @@ put_in i zero at slot (None ∷ xs) (Some y ∷ ys) is free here others =
     let none : count_below at (buffers_from (i + 1) xs) ≡ 0 = count_below-above at (i + 1) xs (omega arith) in
     record { list = rw (first, rest, ← start, none) refl }
 put_in i zero at slot (Some x ∷ xs) (y ∷ ys) is free here others = absurd (none-some x (sym free))
-put_in i (suc key) at slot (None ∷ xs) (None ∷ ys) is free here others =
-    let next : i + 1 + key ≡ i + suc key = omega arith in
-    rw (← next) (put_in (i + 1) key at slot xs ys (omega arith) free here (λ k apart. others (suc k) (omega arith)))
-put_in i (suc key) at slot (None ∷ xs) (Some y ∷ ys) is free here others = absurd (none-some y (sym (others 0 (omega arith))))
-put_in i (suc key) at slot (Some x ∷ xs) (None ∷ ys) is free here others = absurd (none-some x (others 0 (omega arith)))
-put_in i (suc key) at slot (Some x ∷ xs) (Some y ∷ ys) is free here others =
-    let next : i + 1 + key ≡ i + suc key = omega arith in
+put_in i (suc index) at slot (None ∷ xs) (None ∷ ys) is free here others =
+    let next : i + 1 + index ≡ i + suc index = omega arith in
+    rw (← next) (put_in (i + 1) index at slot xs ys (omega arith) free here (λ k apart. others (suc k) (omega arith)))
+put_in i (suc index) at slot (None ∷ xs) (Some y ∷ ys) is free here others = absurd (none-some y (sym (others 0 (omega arith))))
+put_in i (suc index) at slot (Some x ∷ xs) (None ∷ ys) is free here others = absurd (none-some x (others 0 (omega arith)))
+put_in i (suc index) at slot (Some x ∷ xs) (Some y ∷ ys) is free here others =
+    let next : i + 1 + index ≡ i + suc index = omega arith in
     let first : y ≡ x = same_Some _ _ (others 0 (omega arith)) in
-    let rest : IsPutIn (buffers_from (i + 1) xs) (buffers_from (i + 1) ys) at (buffer_at (i + suc key) slot) =
-    rw (← next) (put_in (i + 1) key at slot xs ys (omega arith) free here (λ k apart. others (suc k) (omega arith))) in
+    let rest : IsPutIn (buffers_from (i + 1) xs) (buffers_from (i + 1) ys) at (buffer_at (i + suc index) slot) =
+    rw (← next) (put_in (i + 1) index at slot xs ys (omega arith) free here (λ k apart. others (suc k) (omega arith))) in
     let lower : nat_lt i at ≡ true = lt-ltb _ _ (omega arith) in
     record { list = rw (first, lower, rest.list) refl }

@@ -1,5 +1,5 @@
 -- A buffer is made, or destroyed.
-use Rattle.std.proofs.Common.{◌≡◌, ◌≢◌, ℕ, ◌+◌, ◌-◌, ◌<◌, ◌≤◌, ◌||◌, Bool, List, ◌∷◌, [], length, reverse, drop, get_or, slice_get, unwrap_or, vec_len, vec_capacity, true, false, cond, not, eqb, ltb, leb, arith, refl, sym, ◌∙◌, ap, subst, ⊎_elim, Some, None, Option, zero-add}
+use Rattle.std.proofs.Common.{◌≡◌, ◌≢◌, ℕ, ◌+◌, ◌-◌, ◌<◌, ◌≤◌, ◌||◌, Bool, List, ◌∷◌, [], length, reverse, drop, get_or, slice_get, unwrap_or, true, false, cond, not, eqb, ltb, leb, arith, refl, sym, ◌∙◌, ap, subst, ⊎_elim, Some, None, Option, zero-add}
 use Rattle.std.specs.Option.{option_map}
 use Rattle.std.proofs.lemmas.List.{length-reverse, length-drop, get_or-reverse}
 use Rattle.std.specs.List.{insert, filter}
@@ -12,16 +12,14 @@ use Rattle.gv_types.specs.Mapping.{buffer_id}
 use Rattle.gv_types.specs.declared.mapping.BufferId.{BufferId}
 use Rattle.gv_types.specs.declared.fault.Fault.TheVariants.{BadSize, TooManyBuffers}
 use Rattle.gv_buffers.specs.declared.live_buffer.LiveBuffer.{LiveBuffer}
-use Rattle.gv_buffers.specs.declared.slots.Slots.{Slots}
 use Rattle.gv_buffers.specs.declared.buffers.Buffers.TheInside.{Inside}
 use Rattle.gv_buffers.specs.Buffers.{Buffer, BuffersState, has_id, fresh, create_fault, most_made, count_below, next_index, next_id, with_new, IsBuffer, IsCreated, without}
 use Rattle.gv_buffers.specs.Indices.{IsNoted}
-use Rattle.gv_buffers.specs.Slots.{SlotList, get, buffer_at, buffer_in, buffers_from, live_count, live_at, next_slot, Updates, AreVacant}
+use Rattle.gv_buffers.specs.Slots.{SlotList, SlotsState, get, buffer_at, buffer_in, buffers_from, live_count, live_at, next_slot, Updates, AreVacant}
 use Rattle.gv_buffers.specs.Inside.{table_of, AreSoundBuffers}
 use Rattle.gv_buffers.proofs.LiveBufferLists.{All-buffers_from, put_in, passing, buffers_from-filter}
-use Rattle.gv_buffers.proofs.TablesAndSlots.{live_slot, index_of_seen, count_live, length-buffers_from}
+use Rattle.gv_buffers.proofs.TablesAndSlots.{live_slot, index_of_seen, length-buffers_from}
 use Rattle.gv_buffers.proofs.Conflicts.{no_pairs}
-use Rattle.gv_buffers.proofs.JoinAndLeave.{IsNow, grown}
 
 -- a buffer of this size can be made
 pub no_create_fault : (t : BuffersState) (pages : ℕ) → pages ≢ 0 → pages ≤ pages_per_buffer → length t.live < t.limit → t.made < most_made → create_fault t pages ≡ None
@@ -77,37 +75,36 @@ next_few slots vacant limit (Some v) is are few within =
     omega (arith, below, within)
 
 -- a buffer is put into a free slot
-pub made : (a : Inside) (t : BuffersState) (slots : Slots) (key pages : ℕ) (slot : LiveBuffer) → AreSoundBuffers a → table_of a ≡ t →
-    live_count a.slots.entries.items < a.limit → 0 < pages → pages ≤ pages_per_buffer →
-    key ≡ next_slot a.slots.entries.items a.slots.vacant.items → get a.slots.entries.items key ≡ None →
-    Updates a.slots.entries.items slots.entries.items key (Some slot) → live_count slots.entries.items ≡ live_count a.slots.entries.items + 1 → AreVacant slots.entries.items slots.vacant.items →
-    reverse slots.vacant.items ≡ drop 1 (reverse a.slots.vacant.items) → length slots.entries.items ≤ vec_capacity slots.vacant → buffer_at key slot ≡ fresh (buffer_id key a.made) pages →
-    IsMade (record a { made = a.made + 1; slots = slots }) t (buffer_id key a.made) pages
-made a t slots key pages slot sound view room some few next free updates len are rest indices seen =
-    let b : Buffer = fresh (buffer_id key a.made) pages in
-    let here : buffer_in slots.entries.items key ≡ Some b = ap (option_map (buffer_at key)) updates.changed ∙ ap (λ (x : Buffer). Some x) seen in
-    let elsewhere = λ (position : ℕ) (apart : position ≢ key). ap (option_map (buffer_at position)) (updates.others position apart) in
+pub made : (a : Inside) (t : BuffersState) (slots : SlotsState) (index pages : ℕ) (slot : LiveBuffer) → AreSoundBuffers a → table_of a ≡ t →
+    live_count a.slots.entries < a.limit → 0 < pages → pages ≤ pages_per_buffer →
+    index ≡ next_slot a.slots.entries a.slots.vacant → get a.slots.entries index ≡ None →
+    Updates a.slots.entries slots.entries index (Some slot) → live_count slots.entries ≡ live_count a.slots.entries + 1 → AreVacant slots.entries slots.vacant →
+    reverse slots.vacant ≡ drop 1 (reverse a.slots.vacant) → buffer_at index slot ≡ fresh (buffer_id index a.made) pages →
+    IsMade (record a { made = a.made + 1; slots = slots }) t (buffer_id index a.made) pages
+made a t slots index pages slot sound view room some few next free updates len are rest seen =
+    let b : Buffer = fresh (buffer_id index a.made) pages in
+    let here : buffer_in slots.entries index ≡ Some b = ap (option_map (buffer_at index)) updates.changed ∙ ap (λ (x : Buffer). Some x) seen in
+    let elsewhere = λ (position : ℕ) (apart : position ≢ index). ap (option_map (buffer_at position)) (updates.others position apart) in
     let is_buffer : IsBuffer (a.made + 1) b = record { made_before = omega arith; some_pages = some; few_pages = few; no_conflict = no_pairs } in
-    let put = put_in 0 key key slot a.slots.entries.items slots.entries.items (omega arith) free updates.changed updates.others in
-    let at_key : buffer_at (0 + key) slot ≡ b = rw zero-add seen in
-    let index : key ≡ next_index (table_of a) = next ∙ next_from_slots a.slots.entries.items a.slots.vacant.items _ refl sound.vacant in
-    let name : buffer_id key a.made ≡ next_id (table_of a) = ap (λ (n : ℕ). buffer_id n a.made) index in
+    let put = put_in 0 index index slot a.slots.entries slots.entries (omega arith) free updates.changed updates.others in
+    let at_index : buffer_at (0 + index) slot ≡ b = rw zero-add seen in
+    let is_next : index ≡ next_index (table_of a) = next ∙ next_from_slots a.slots.entries a.slots.vacant _ refl sound.vacant in
+    let name : buffer_id index a.made ≡ next_id (table_of a) = ap (λ (n : ℕ). buffer_id n a.made) is_next in
     record {
       sound = record {
         limit = sound.limit;
         few = rw len (omega arith);
         buffers = λ position x found. ⊎_elim
-            (λ (e : position ≡ key). subst (IsBuffer (a.made + 1)) (same_Some _ _ (sym here ∙ (rw (← e) found))) is_buffer)
-            (λ (apart : position ≢ key).
+            (λ (e : position ≡ index). subst (IsBuffer (a.made + 1)) (same_Some _ _ (sym here ∙ (rw (← e) found))) is_buffer)
+            (λ (apart : position ≢ index).
             let old : IsBuffer a.made x = sound.buffers position x (sym (elsewhere position apart) ∙ found) in
             record { made_before = omega (arith, old.made_before); some_pages = old.some_pages; few_pages = old.few_pages; no_conflict = old.no_conflict })
-            (cases_eq position key);
+            (cases_eq position index);
         noted = λ position. ⊎_elim
-            (λ (e : position ≡ key). rw (e, here) (All-nil (λ u. IsNoted a.indices u.job key)))
-            (λ (apart : position ≢ key). rw (elsewhere position apart) (sound.noted position))
-            (cases_eq position key);
+            (λ (e : position ≡ index). rw (e, here) (All-nil (λ u. IsNoted a.indices u.job index)))
+            (λ (apart : position ≢ index). rw (elsewhere position apart) (sound.noted position))
+            (cases_eq position index);
         vacant = are;
-        room = indices;
         within = omega (
           arith,
           are.all,
@@ -116,46 +113,23 @@ made a t slots key pages slot sound view room some few next free updates len are
           sound.within,
           room,
           ap length rest,
-          length-reverse slots.vacant.items,
-          length-reverse a.slots.vacant.items,
-          length-drop 1 (reverse a.slots.vacant.items),
+          length-reverse slots.vacant,
+          length-reverse a.slots.vacant,
+          length-drop 1 (reverse a.slots.vacant),
         );
       };
-      created = subst (λ (s : BuffersState). IsCreated s (table_of (record a { made = a.made + 1; slots = slots })) (buffer_id key a.made) pages) view (record {
+      created = subst (λ (s : BuffersState). IsCreated s (table_of (record a { made = a.made + 1; slots = slots })) (buffer_id index a.made) pages) view (record {
         id_is = name;
-        free = All-buffers_from (λ x. x.id.index ≢ key) 0 a.slots.entries.items (λ k j e x found same.
+        free = All-buffers_from (λ x. x.id.index ≢ index) 0 a.slots.entries (λ k j e x found same.
             let position : x.id.index ≡ j = index_of_seen j _ x found in
-            let there : k ≡ key = omega arith in
-            absurd (none-some x (sym (ap (option_map (buffer_at j)) (subst (λ (n : ℕ). get a.slots.entries.items n ≡ None) (sym there) free)) ∙ found)));
-        state = ap (λ (live : List Buffer). record { limit = a.limit; made = a.made + 1; live = live; vacant = reverse slots.vacant.items })
-            (put.list ∙ ap (insert (buffers_from 0 a.slots.entries.items) (count_below key (buffers_from 0 a.slots.entries.items))) at_key
-            ∙ ap (λ (n : ℕ). insert (buffers_from 0 a.slots.entries.items) (count_below n (buffers_from 0 a.slots.entries.items)) (fresh (buffer_id n a.made) pages)) index)
+            let there : k ≡ index = omega arith in
+            absurd (none-some x (sym (ap (option_map (buffer_at j)) (subst (λ (n : ℕ). get a.slots.entries n ≡ None) (sym there) free)) ∙ found)));
+        state = ap (λ (live : List Buffer). record { limit = a.limit; made = a.made + 1; live = live; vacant = reverse slots.vacant })
+            (put.list ∙ ap (insert (buffers_from 0 a.slots.entries) (count_below index (buffers_from 0 a.slots.entries))) at_index
+            ∙ ap (λ (n : ℕ). insert (buffers_from 0 a.slots.entries) (count_below n (buffers_from 0 a.slots.entries)) (fresh (buffer_id n a.made) pages)) is_next)
             ∙ ap (λ (vs : List ℕ). record (with_new pages (table_of a)) { vacant = vs }) rest;
       });
     }
-
--- and into the next one, once room was made for it
-pub made_with_room : (a : Inside) (t : BuffersState) (mid slots : Slots) (index pages : ℕ) (slot : LiveBuffer) → AreSoundBuffers a → table_of a ≡ t →
-    mid.entries.items ≡ a.slots.entries.items → mid.vacant.items ≡ a.slots.vacant.items → length mid.entries.items ≤ vec_capacity mid.vacant →
-    (vec_len mid.vacant ≡ 0 → length mid.entries.items < vec_capacity mid.vacant) → length t.live < a.limit → 0 < pages → pages ≤ pages_per_buffer →
-    index ≡ next_slot a.slots.entries.items a.slots.vacant.items →
-    get mid.entries.items (next_slot mid.entries.items mid.vacant.items) ≡ None →
-    Updates mid.entries.items slots.entries.items (next_slot mid.entries.items mid.vacant.items) (Some slot) →
-    live_count slots.entries.items ≡ live_count mid.entries.items + 1 → AreVacant slots.entries.items slots.vacant.items → reverse slots.vacant.items ≡ drop 1 (reverse mid.vacant.items) →
-    vec_capacity slots.vacant ≡ vec_capacity mid.vacant → length slots.entries.items ≤ length mid.entries.items + 1 →
-    (0 < vec_len mid.vacant → length slots.entries.items ≡ length mid.entries.items) → buffer_at index slot ≡ fresh (buffer_id index a.made) pages →
-    IsMade (record a { made = a.made + 1; slots = slots }) t (buffer_id index a.made) pages
-made_with_room a t mid slots index pages slot sound view same same_vacant room room_next few_live some few is free updates len are rest capacity indices indices_same seen =
-    let now : IsNow (record a { slots = mid }) t = grown a t mid sound view same same_vacant room in
-    let next : index ≡ next_slot mid.entries.items mid.vacant.items = rw (same, same_vacant) is in
-    let fits : length slots.entries.items ≤ vec_capacity slots.vacant = ⊎_elim
-    (λ (e : vec_len mid.vacant ≡ 0). omega (arith, room_next e, capacity, indices))
-    (λ (d : vec_len mid.vacant ≢ 0). let some_vacant : 0 < vec_len mid.vacant = omega (arith, d) in omega (arith, room, capacity, indices_same some_vacant))
-    (cases_eq (vec_len mid.vacant) 0) in
-    made (record a { slots = mid }) t slots index pages slot now.sound now.table
-    (omega (arith, few_live, count_live (record a { slots = mid }) t now.table)) some few next
-    (subst (λ (n : ℕ). get mid.entries.items n ≡ None) (sym next) free) (subst (λ (n : ℕ). Updates mid.entries.items slots.entries.items n (Some slot)) (sym next) updates)
-    len are rest fits seen
 
 pub record IsDestroyed (b : Inside) (t : BuffersState) (id : BufferId) : Type 0 where
   pub sound : AreSoundBuffers b
@@ -168,25 +142,24 @@ passing_elsewhere id index (Some s) apart =
     let other : eqb index id.index ≡ false = ne_eqb _ _ apart in rw other refl
 
 -- a buffer is taken out of its slot
-pub destroyed : (a : Inside) (t : BuffersState) (slots : Slots) (id : BufferId) (v : LiveBuffer) → AreSoundBuffers a → table_of a ≡ t → live_at a.slots.entries.items id ≡ Some v →
-    Updates a.slots.entries.items slots.entries.items id.index None → live_count slots.entries.items + 1 ≡ live_count a.slots.entries.items → AreVacant slots.entries.items slots.vacant.items →
-    reverse slots.vacant.items ≡ id.index ∷ reverse a.slots.vacant.items → length slots.entries.items ≤ vec_capacity slots.vacant →
-    IsDestroyed (record a { slots = slots }) t id
-destroyed a t slots id v sound view found updates len are noted indices =
-    let new : SlotList = slots.entries.items in
+pub destroyed : (a : Inside) (t : BuffersState) (slots : SlotsState) (id : BufferId) (v : LiveBuffer) → AreSoundBuffers a → table_of a ≡ t → live_at a.slots.entries id ≡ Some v →
+    Updates a.slots.entries slots.entries id.index None → live_count slots.entries + 1 ≡ live_count a.slots.entries → AreVacant slots.entries slots.vacant →
+    reverse slots.vacant ≡ id.index ∷ reverse a.slots.vacant → IsDestroyed (record a { slots = slots }) t id
+destroyed a t slots id v sound view found updates len are noted =
+    let new : SlotList = slots.entries in
     let slot = live_slot a id v found in
     let here : buffer_in new id.index ≡ None = ap (option_map (buffer_at id.index)) updates.changed in
     let elsewhere = λ (position : ℕ) (apart : position ≢ id.index). ap (option_map (buffer_at position)) (updates.others position apart) in
     let index : eqb id.index id.index ≡ true = eq-eqb _ _ refl in
     let generation : eqb v.generation id.generation ≡ true = eq-eqb _ _ slot.1 in
-    let gone : None ≡ passing (λ b. not (has_id id b)) (buffer_in a.slots.entries.items id.index) = rw slot.0 (rw (index, generation) refl) in
+    let gone : None ≡ passing (λ b. not (has_id id b)) (buffer_in a.slots.entries id.index) = rw slot.0 (rw (index, generation) refl) in
     let each = λ (position : ℕ). ⊎_elim
-    (λ (e : position ≡ id.index). let there : buffer_in new id.index ≡ passing (λ b. not (has_id id b)) (buffer_in a.slots.entries.items id.index) = here ∙ gone in
-    subst (λ (n : ℕ). buffer_in new n ≡ passing (λ b. not (has_id id b)) (buffer_in a.slots.entries.items n)) (sym e) there)
-    (λ (apart : position ≢ id.index). elsewhere position apart ∙ passing_elsewhere id position (get a.slots.entries.items position) apart)
+    (λ (e : position ≡ id.index). let there : buffer_in new id.index ≡ passing (λ b. not (has_id id b)) (buffer_in a.slots.entries id.index) = here ∙ gone in
+    subst (λ (n : ℕ). buffer_in new n ≡ passing (λ b. not (has_id id b)) (buffer_in a.slots.entries n)) (sym e) there)
+    (λ (apart : position ≢ id.index). elsewhere position apart ∙ passing_elsewhere id position (get a.slots.entries position) apart)
     (cases_eq position id.index) in
-    let list : buffers_from 0 new ≡ filter (λ b. not (has_id id b)) (buffers_from 0 a.slots.entries.items) =
-    buffers_from-filter (λ b. not (has_id id b)) 0 a.slots.entries.items new (λ k j e. let same : j ≡ k = omega arith in rw same (each k)) in
+    let list : buffers_from 0 new ≡ filter (λ b. not (has_id id b)) (buffers_from 0 a.slots.entries) =
+    buffers_from-filter (λ b. not (has_id id b)) 0 a.slots.entries new (λ k j e. let same : j ≡ k = omega arith in rw same (each k)) in
     record {
       sound = record {
         limit = sound.limit;
@@ -200,10 +173,9 @@ destroyed a t slots id v sound view found updates len are noted indices =
             (λ (apart : position ≢ id.index). rw (elsewhere position apart) (sound.noted position))
             (cases_eq position id.index);
         vacant = are;
-        room = indices;
-        within = omega (arith, are.all, len, sound.vacant.all, sound.within, ap length noted, length-reverse slots.vacant.items, length-reverse a.slots.vacant.items);
+        within = omega (arith, are.all, len, sound.vacant.all, sound.within, ap length noted, length-reverse slots.vacant, length-reverse a.slots.vacant);
       };
-      table = ap (λ (live : List Buffer). record { limit = a.limit; made = a.made; live = live; vacant = reverse slots.vacant.items }) list
+      table = ap (λ (live : List Buffer). record { limit = a.limit; made = a.made; live = live; vacant = reverse slots.vacant }) list
           ∙ ap (λ (vs : List ℕ). record (without id (table_of a)) { vacant = vs }) noted ∙ ap (without id) view;
     }
 

@@ -2,7 +2,6 @@
 use Rattle.std.proofs.Common.{◌≡◌, ◌≢◌, ℕ, ◌+◌, List, [], ◌∷◌, length, map, true, false, cond, eqb, arith, refl, sym, reverse, ◌∙◌, ap, subst, ⊎_elim, Some, None, Option, IsSome, is_some, count_by}
 use Rattle.std.specs.Option.{option_map, option_copied, IsSomeAnd, MatchOption}
 use Rattle.std.specs.Borrow.{Bor}
-use Rattle.std.specs.Global.{Vec}
 use Rattle.std.specs.List.{All}
 use Rattle.std.proofs.lemmas.Bool.{cases_eq, ne_eqb, eq-eqb, eqb-true, false≢true}
 use Rattle.std.proofs.lemmas.Option.{none-some, same_Some}
@@ -10,19 +9,18 @@ use Rattle.std.proofs.lemmas.List.{length-map}
 use Rattle.std.proofs.lemmas.List.Sums.{sum_by-cons}
 use Rattle.gv_types.specs.declared.mapping.BufferId.{BufferId}
 use Rattle.gv_buffers.specs.declared.live_buffer.LiveBuffer.{LiveBuffer}
-use Rattle.gv_buffers.specs.declared.slots.Slots.{Slots}
 use Rattle.gv_buffers.specs.declared.buffers.Buffers.TheInside.{Inside}
 use Rattle.gv_buffers.specs.Buffers.{Buffer, BuffersState, has_id, buffer, IsLive, IsTable, IsBuffer, only, changed}
 use Rattle.gv_buffers.specs.Indices.{Notes, IsNoted}
 use Rattle.gv_buffers.specs.declared.counter.Move.{Move}
-use Rattle.gv_buffers.specs.Slots.{SlotList, after_move, get, buffer_at, buffer_in, buffers_from, live_count, of_generation, live_at, Holds, AreNoted}
+use Rattle.gv_buffers.specs.Slots.{SlotList, SlotsState, after_move, get, buffer_at, buffer_in, buffers_from, live_count, of_generation, live_at, Holds, AreNoted}
 use Rattle.gv_buffers.specs.Inside.{table_of, AreSoundBuffers}
 use Rattle.gv_buffers.proofs.Vacancy.{AreVacant-alike}
 use Rattle.gv_buffers.proofs.LiveBufferLists.{seen_at, buffers_from-map, buffers_from-same, All-buffers_from, AllPairs-buffers_from, find-buffers_from}
 
 -- what an id finds is the buffer in its slot
-pub buffer_from_slot : (a : Inside) (id : BufferId) → buffer (table_of a) id ≡ option_map (buffer_at id.index) (live_at a.slots.entries.items id)
-buffer_from_slot a id = find-buffers_from id 0 id.index a.slots.entries.items (omega arith)
+pub buffer_from_slot : (a : Inside) (id : BufferId) → buffer (table_of a) id ≡ option_map (buffer_at id.index) (live_at a.slots.entries id)
+buffer_from_slot a id = find-buffers_from id 0 id.index a.slots.entries (omega arith)
 
 of_generation_is : (generation i : ℕ) (o : Option LiveBuffer) (v : LiveBuffer) → IsSome (option_map (buffer_at i) (of_generation generation o)) → o ≡ Some v → v.generation ≡ generation
 of_generation_is generation i None v lives found = absurd (none-some v found)
@@ -33,26 +31,26 @@ of_generation_is generation i (Some x) v lives found =
     rw (← same) (eqb-true _ _ t)
 
 -- the slot at a live id's index holds a buffer of its generation
-pub live_generation : (a : Inside) (id : BufferId) (v : LiveBuffer) → IsLive (table_of a) id → get a.slots.entries.items id.index ≡ Some v → v.generation ≡ id.generation
+pub live_generation : (a : Inside) (id : BufferId) (v : LiveBuffer) → IsLive (table_of a) id → get a.slots.entries id.index ≡ Some v → v.generation ≡ id.generation
 live_generation a id v lives found =
-    of_generation_is id.generation id.index (get a.slots.entries.items id.index) v (rw (buffer_from_slot a id) at lives) found
+    of_generation_is id.generation id.index (get a.slots.entries id.index) v (rw (buffer_from_slot a id) at lives) found
 
 contains_of_generation : (generation i : ℕ) (o : Option LiveBuffer) → IsSome (option_map (buffer_at i) (of_generation generation o)) → IsSome o
 contains_of_generation generation i None lives = lives
 contains_of_generation generation i (Some x) lives = refl
 
-pub live_contains : (a : Inside) (id : BufferId) → IsLive (table_of a) id → Holds a.slots.entries.items id.index
-live_contains a id lives = contains_of_generation id.generation id.index (get a.slots.entries.items id.index) (rw (buffer_from_slot a id) at lives)
+pub live_contains : (a : Inside) (id : BufferId) → IsLive (table_of a) id → Holds a.slots.entries id.index
+live_contains a id lives = contains_of_generation id.generation id.index (get a.slots.entries id.index) (rw (buffer_from_slot a id) at lives)
 
 some_slot : (o : Option LiveBuffer) → IsSome o → (v : LiveBuffer) × (o ≡ Some v)
 some_slot None lives = absurd (false≢true lives)
 some_slot (Some v) lives = (v, refl)
 
-slot_of : (a : Inside) (id : BufferId) → IsLive (table_of a) id → (v : LiveBuffer) × (get a.slots.entries.items id.index ≡ Some v)
-slot_of a id lives = some_slot (get a.slots.entries.items id.index) (live_contains a id lives)
+slot_of : (a : Inside) (id : BufferId) → IsLive (table_of a) id → (v : LiveBuffer) × (get a.slots.entries id.index ≡ Some v)
+slot_of a id lives = some_slot (get a.slots.entries id.index) (live_contains a id lives)
 
 -- the buffer of a live id, by its slot
-pub live_buffer : (a : Inside) (id : BufferId) (v : LiveBuffer) → IsLive (table_of a) id → get a.slots.entries.items id.index ≡ Some v → buffer (table_of a) id ≡ Some (buffer_at id.index v)
+pub live_buffer : (a : Inside) (id : BufferId) (v : LiveBuffer) → IsLive (table_of a) id → get a.slots.entries id.index ≡ Some v → buffer (table_of a) id ≡ Some (buffer_at id.index v)
 live_buffer a id v lives found =
     let generation : eqb v.generation id.generation ≡ true = eq-eqb _ _ (live_generation a id v lives found) in
     buffer_from_slot a id ∙ (rw found (rw generation refl))
@@ -116,23 +114,22 @@ nothing_seen index (Some x) seen = absurd (none-some (buffer_at index x) (sym se
 
 -- a sound table whose buffers are changed one by one
 pub sound_map : (a b : Inside) (f : Buffer → Buffer) → AreSoundBuffers a → b.limit ≡ a.limit → b.made ≡ a.made → b.slots.vacant ≡ a.slots.vacant →
-    length b.slots.entries.items ≡ length a.slots.entries.items →
-    ((index : ℕ) → buffer_in b.slots.entries.items index ≡ option_map f (buffer_in a.slots.entries.items index)) →
-    ((index : ℕ) (x : Buffer) → buffer_in a.slots.entries.items index ≡ Some x → IsBuffer a.made x → IsBuffer a.made (f x)) →
-    ((index : ℕ) (x : Buffer) → buffer_in a.slots.entries.items index ≡ Some x → AreNoted a.indices index (Some x) → AreNoted b.indices index (Some (f x))) →
+    length b.slots.entries ≡ length a.slots.entries →
+    ((index : ℕ) → buffer_in b.slots.entries index ≡ option_map f (buffer_in a.slots.entries index)) →
+    ((index : ℕ) (x : Buffer) → buffer_in a.slots.entries index ≡ Some x → IsBuffer a.made x → IsBuffer a.made (f x)) →
+    ((index : ℕ) (x : Buffer) → buffer_in a.slots.entries index ≡ Some x → AreNoted a.indices index (Some x) → AreNoted b.indices index (Some (f x))) →
     AreSoundBuffers b
 sound_map a b f sound limit made vacant long each keeps notes =
-    let lists : buffers_from 0 b.slots.entries.items ≡ map f (buffers_from 0 a.slots.entries.items) = live_from_map f a.slots.entries.items b.slots.entries.items each in
-    let same_len : live_count b.slots.entries.items ≡ live_count a.slots.entries.items =
-    sym (length-buffers_from 0 b.slots.entries.items) ∙ ap length lists ∙ length-map _ _ ∙ length-buffers_from 0 a.slots.entries.items in
+    let lists : buffers_from 0 b.slots.entries ≡ map f (buffers_from 0 a.slots.entries) = live_from_map f a.slots.entries b.slots.entries each in
+    let same_len : live_count b.slots.entries ≡ live_count a.slots.entries =
+    sym (length-buffers_from 0 b.slots.entries) ∙ ap length lists ∙ length-map _ _ ∙ length-buffers_from 0 a.slots.entries in
     record {
       limit = rw limit sound.limit;
       few = rw (limit, same_len) sound.few;
-      buffers = λ index x found. rw made (buffers_after f a.made (buffer_in a.slots.entries.items index) x (sym (each index) ∙ found) (keeps index) (sound.buffers index));
-      noted = λ index. rw (each index) (noted_after f a.indices b.indices index (buffer_in a.slots.entries.items index) (notes index) (sound.noted index));
-      vacant = rw vacant (AreVacant-alike a.slots.entries.items b.slots.entries.items a.slots.vacant.items long same_len
-          (λ index nothing. nothing_seen index (get b.slots.entries.items index) (each index ∙ ap (λ o. option_map f (option_map (buffer_at index) o)) nothing)) sound.vacant);
-      room = rw (vacant, long) sound.room;
+      buffers = λ index x found. rw made (buffers_after f a.made (buffer_in a.slots.entries index) x (sym (each index) ∙ found) (keeps index) (sound.buffers index));
+      noted = λ index. rw (each index) (noted_after f a.indices b.indices index (buffer_in a.slots.entries index) (notes index) (sound.noted index));
+      vacant = rw vacant (AreVacant-alike a.slots.entries b.slots.entries a.slots.vacant long same_len
+          (λ index nothing. nothing_seen index (get b.slots.entries index) (each index ∙ ap (λ o. option_map f (option_map (buffer_at index) o)) nothing)) sound.vacant);
       within = rw (limit, long) sound.within;
     }
 
@@ -141,9 +138,9 @@ pub sound_table : (a : Inside) → AreSoundBuffers a → IsTable (table_of a)
 sound_table a sound =
     record {
       limit = sound.limit;
-      few = rw (length-buffers_from 0 a.slots.entries.items) sound.few;
-      buffers = All-buffers_from (IsBuffer a.made) 0 a.slots.entries.items (λ k j e b found. let same : j ≡ k = omega arith in sound.buffers k b (subst (λ (n : ℕ). seen_at n a.slots.entries.items k ≡ Some b) same found));
-      apart = AllPairs-buffers_from 0 a.slots.entries.items;
+      few = rw (length-buffers_from 0 a.slots.entries) sound.few;
+      buffers = All-buffers_from (IsBuffer a.made) 0 a.slots.entries (λ k j e b found. let same : j ≡ k = omega arith in sound.buffers k b (subst (λ (n : ℕ). seen_at n a.slots.entries k ≡ Some b) same found));
+      apart = AllPairs-buffers_from 0 a.slots.entries;
     }
 
 -- one buffer's counts were changed in its slot
@@ -159,21 +156,21 @@ only_notes : (id : BufferId) (change : Buffer → Buffer) (notes : Notes) (index
 only_notes id change notes index x same was =
     elim (has_id id x) as (λ t. All (λ u. IsNoted notes u.job index) (cond t (change x) x).users) [ true ↦ rw same was | false ↦ was ]
 
-pub moved : (a : Inside) (t : BuffersState) (new : Slots) (id : BufferId) (change : Buffer → Buffer) → AreSoundBuffers a → table_of a ≡ t → IsLive t id → new.vacant ≡ a.slots.vacant →
-    length new.entries.items ≡ length a.slots.entries.items → buffer_in new.entries.items id.index ≡ option_map change (buffer_in a.slots.entries.items id.index) →
-    ((index : ℕ) → index ≢ id.index → get new.entries.items index ≡ get a.slots.entries.items index) →
+pub moved : (a : Inside) (t : BuffersState) (new : SlotsState) (id : BufferId) (change : Buffer → Buffer) → AreSoundBuffers a → table_of a ≡ t → IsLive t id → new.vacant ≡ a.slots.vacant →
+    length new.entries ≡ length a.slots.entries → buffer_in new.entries id.index ≡ option_map change (buffer_in a.slots.entries id.index) →
+    ((index : ℕ) → index ≢ id.index → get new.entries index ≡ get a.slots.entries index) →
     ((made : ℕ) (x : Buffer) → IsBuffer made x → IsBuffer made (change x)) → ((x : Buffer) → (change x).users ≡ x.users) →
     IsCounted (record a { slots = new }) id change t
 moved a t new id change sound view lives vacant long here others keeps users =
     let lives_here : IsLive (table_of a) id = subst (λ (s : BuffersState). IsLive s id) (sym view) lives in
     let found = slot_of a id lives_here in
-    let each = indices_from_only id change a.slots.entries.items new.entries.items found.0 found.1 (live_generation a id found.0 lives_here found.1) here (λ index apart. ap (option_map (buffer_at index)) (others index apart)) in
+    let each = indices_from_only id change a.slots.entries new.entries found.0 found.1 (live_generation a id found.0 lives_here found.1) here (λ index apart. ap (option_map (buffer_at index)) (others index apart)) in
     record {
       sound = sound_map a (record a { slots = new }) (only id change) sound refl refl vacant long each
           (λ index x _ was. only_keeps id change a.made x (keeps a.made x) was)
           (λ index x _ was. only_notes id change a.indices index x (users x) was);
-      table = ap (λ (vs : Vec ℕ). record { limit = a.limit; made = a.made; live = buffers_from 0 new.entries.items; vacant = reverse vs.items }) vacant
-          ∙ ap (λ (live : List Buffer). record { limit = a.limit; made = a.made; live = live; vacant = reverse a.slots.vacant.items }) (live_from_map (only id change) a.slots.entries.items new.entries.items each)
+      table = ap (λ (vs : List ℕ). record { limit = a.limit; made = a.made; live = buffers_from 0 new.entries; vacant = reverse vs }) vacant
+          ∙ ap (λ (live : List Buffer). record { limit = a.limit; made = a.made; live = live; vacant = reverse a.slots.vacant }) (live_from_map (only id change) a.slots.entries new.entries each)
           ∙ ap (changed id change) view;
     }
 
@@ -187,12 +184,12 @@ IsBuffer-after_move how made b was = record { made_before = was.made_before; som
 
 -- what is said of a live buffer holds of the one in its slot
 pub in_place : (a : Inside) (t : BuffersState) (id : BufferId) (P : Buffer → Type 0) → table_of a ≡ t →
-    IsSomeAnd (buffer t id) P → IsSomeAnd (buffer_in a.slots.entries.items id.index) P
+    IsSomeAnd (buffer t id) P → IsSomeAnd (buffer_in a.slots.entries id.index) P
 in_place a t id P view holds =
     let holds_here : IsSomeAnd (buffer (table_of a) id) P = subst (λ (s : BuffersState). IsSomeAnd (buffer s id) P) (sym view) holds in
     let lives : IsLive (table_of a) id = some_lives P (buffer (table_of a) id) holds_here in
     let found = slot_of a id lives in
-    let seen : buffer (table_of a) id ≡ buffer_in a.slots.entries.items id.index = live_buffer a id found.0 lives found.1 ∙ sym (ap (option_map (buffer_at id.index)) found.1) in
+    let seen : buffer (table_of a) id ≡ buffer_in a.slots.entries id.index = live_buffer a id found.0 lives found.1 ∙ sym (ap (option_map (buffer_at id.index)) found.1) in
     subst (λ (o : Option Buffer). IsSomeAnd o P) seen holds_here
 
 -- a number read of what a search found
@@ -215,15 +212,15 @@ of_generation_found generation (Some x) v found =
     ] refl found
 
 -- a search that found a slot found it at its index, with its generation
-pub live_slot : (a : Inside) (id : BufferId) (v : LiveBuffer) → live_at a.slots.entries.items id ≡ Some v → (get a.slots.entries.items id.index ≡ Some v) × (v.generation ≡ id.generation)
-live_slot a id v found = of_generation_found id.generation (get a.slots.entries.items id.index) v found
+pub live_slot : (a : Inside) (id : BufferId) (v : LiveBuffer) → live_at a.slots.entries id ≡ Some v → (get a.slots.entries id.index ≡ Some v) × (v.generation ≡ id.generation)
+live_slot a id v found = of_generation_found id.generation (get a.slots.entries id.index) v found
 
 -- the buffer that a search found, or missed
-pub found_buffer : (a : Inside) (t : BuffersState) (id : BufferId) (v : LiveBuffer) → table_of a ≡ t → live_at a.slots.entries.items id ≡ Some v → buffer t id ≡ Some (buffer_at id.index v)
+pub found_buffer : (a : Inside) (t : BuffersState) (id : BufferId) (v : LiveBuffer) → table_of a ≡ t → live_at a.slots.entries id ≡ Some v → buffer t id ≡ Some (buffer_at id.index v)
 found_buffer a t id v view found =
     sym (ap (λ (s : BuffersState). buffer s id) view) ∙ buffer_from_slot a id ∙ ap (option_map (buffer_at id.index)) found
 
-pub missed_buffer : (a : Inside) (t : BuffersState) (id : BufferId) → table_of a ≡ t → live_at a.slots.entries.items id ≡ None → buffer t id ≡ None
+pub missed_buffer : (a : Inside) (t : BuffersState) (id : BufferId) → table_of a ≡ t → live_at a.slots.entries id ≡ None → buffer t id ≡ None
 missed_buffer a t id view missed =
     sym (ap (λ (s : BuffersState). buffer s id) view) ∙ buffer_from_slot a id ∙ ap (option_map (buffer_at id.index)) missed
 
@@ -232,8 +229,8 @@ index_of_seen j None b found = absurd (none-some b found)
 index_of_seen j (Some s) b found = ap (λ (x : Buffer). x.id.index) (sym (same_Some _ _ found))
 
 -- as many buffers are alive as slots hold one
-pub count_live : (a : Inside) (t : BuffersState) → table_of a ≡ t → length t.live ≡ live_count a.slots.entries.items
-count_live a t view = ap (λ (s : BuffersState). length s.live) (sym view) ∙ length-buffers_from 0 a.slots.entries.items
+pub count_live : (a : Inside) (t : BuffersState) → table_of a ≡ t → length t.live ≡ live_count a.slots.entries
+count_live a t view = ap (λ (s : BuffersState). length s.live) (sym view) ∙ length-buffers_from 0 a.slots.entries
 
 field_seen : (i : ℕ) (field : Buffer → ℕ) (o : Option LiveBuffer) → option_map (λ s. field (buffer_at i s)) o ≡ option_map field (option_map (buffer_at i) o)
 field_seen i field None = refl
@@ -241,9 +238,9 @@ field_seen i field (Some s) = refl
 
 -- a number of the buffer with an id, read from its slot
 pub field_in_slot : (a : Inside) (t : BuffersState) (id : BufferId) (field : Buffer → ℕ) → table_of a ≡ t →
-    option_map (λ s. field (buffer_at id.index s)) (live_at a.slots.entries.items id) ≡ option_map field (buffer t id)
+    option_map (λ s. field (buffer_at id.index s)) (live_at a.slots.entries id) ≡ option_map field (buffer t id)
 field_in_slot a t id field view =
-    field_seen id.index field (live_at a.slots.entries.items id) ∙ ap (option_map field) (sym (buffer_from_slot a id) ∙ ap (λ (s : BuffersState). buffer s id) view)
+    field_seen id.index field (live_at a.slots.entries id) ∙ ap (option_map field) (sym (buffer_from_slot a id) ∙ ap (λ (s : BuffersState). buffer s id) view)
 
 -- a table of buffers that is seen keeps what a sound one does
 pub is_table : (a : Inside) (t : BuffersState) → AreSoundBuffers a → table_of a ≡ t → IsTable t

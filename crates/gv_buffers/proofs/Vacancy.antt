@@ -75,6 +75,19 @@ AreVacant-put slots vacant index buffer are =
       all = omega (arith, are.all, more, length-set slots index (Some buffer), live_count-put slots index buffer last.within last.nothing);
     }
 
+-- one more slot, with a buffer
+pub live_count-push : (slots : SlotList) (buffer : LiveBuffer) → live_count (slots ++ Some buffer ∷ []) ≡ live_count slots + 1
+live_count-push [] buffer = omega (arith, live_count-cons (Some buffer) [])
+live_count-push (slot ∷ slots) buffer =
+    omega (arith, live_count-push slots buffer, live_count-cons slot slots, live_count-cons slot (slots ++ Some buffer ∷ []))
+
+-- another buffer stands in the place of one
+pub live_count-kept : (slots : SlotList) (index : ℕ) (buffer : LiveBuffer) → IsSome (get slots index) → live_count (set slots index (Some buffer)) ≡ live_count slots
+live_count-kept slots index buffer lives =
+    let moved : live_count (set slots index (Some buffer)) + counts (get slots index) ≡ live_count slots + 1 = live_count-set slots index (Some buffer) (within_from_some slots index lives) in
+    let one : counts (get slots index) ≡ 1 = some_counts (get slots index) lives in
+    omega (arith, moved, one)
+
 -- a buffer was taken out of its index
 pub live_count-taken : (slots : SlotList) (index : ℕ) → IsSome (get slots index) → live_count (set slots index None) + 1 ≡ live_count slots
 live_count-taken slots index lives =

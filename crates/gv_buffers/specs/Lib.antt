@@ -3,6 +3,7 @@ pub mod Ascending
 pub mod FirstPages
 pub mod Buffers
 pub mod Slots
+pub mod Keys
 pub mod Indices
 pub mod Inside
 pub mod Laws

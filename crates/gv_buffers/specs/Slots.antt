@@ -14,6 +14,14 @@ use Rattle.gv_buffers.specs.Buffers.{Buffer, most_counted, left_by}
 abbrev pub SlotList : Type 0
 SlotList = List (Option LiveBuffer)
 
+-- what `Buffers` see of their slots: these, and the vacant indices, the one that was left last at the end
+pub record SlotsState : Type 0 where
+  pub entries : SlotList
+  pub vacant : List ℕ
+
+abbrev pub no_slots : SlotsState
+no_slots = record { entries = []; vacant = [] }
+
 -- the slot at an index
 abbrev pub get : SlotList → ℕ → Option LiveBuffer
 get slots index = slice_index_or slots index None

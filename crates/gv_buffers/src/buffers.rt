@@ -58,10 +58,7 @@ impl Buffers {
         Ok(Buffers {
             limit,
             made: 0,
-            slots: Slots {
-                entries: Vec::with_capacity(alloc, room)?,
-                vacant: Vec::with_capacity(alloc, room)?,
-            },
+            slots: Slots::new(alloc, room)?,
             indices: HashMap::new(alloc),
         })
     }
@@ -98,8 +95,8 @@ impl Buffers {
     }
 
     /// Makes a buffer of `pages` pages, unless `create_fault` says why none can be, or memory is refused. The id's generation is how many
-    /// were made before; its index is the one that a destroyed buffer left last, if one is vacant. It takes memory only where none is, and
-    /// then for twice as many indices.
+    /// were made before; its index is the one that a destroyed buffer left last, if one is vacant. Where none is, it may take memory,
+    /// for twice as many indices; where one is, only if a `shrink` gave the room of the dead buffer back.
     pub fn create(&mut self, alloc: Global, pages: u64) -> Result<BufferId, Fault>
         ensures fault { MatchOption (create_fault self.old pages)
             (IsOkUnless result Fault.OutOfMemory) (λ fault. result ≡ Err fault) }
@@ -110,7 +107,6 @@ impl Buffers {
         if let Some(fault) = self.create_fault(pages) {
             return Err(fault);
         }
-        let index = self.slots.reserve_next()?;
         let generation = self.made;
         let buffer = LiveBuffer {
             generation: Generation::new(generation),
@@ -119,7 +115,7 @@ impl Buffers {
             kept: 0,
             users: Users::new(alloc),
         };
-        self.slots.put_in(buffer);
+        let index = self.slots.put_in(buffer)?;
         self.made += 1;
         Ok(BufferId::new(index, generation))
     }
@@ -225,7 +221,7 @@ impl Buffers {
     fn live(&self) -> usize
         ensures { result ≡ length self.now.live }
     {
-        self.slots.entries.len() - self.slots.vacant.len()
+        self.slots.live()
     }
 
     /// How many mappings a counter of the buffer counts, or None where the id is dead.

@@ -1,11 +1,12 @@
 //! A live buffer at its index.
-ghost use Rattle.std.specs.Prelude.{◌≡◌, ◌<◌, ℕ, IsOk, MatchOption};
-ghost use Rattle.gv_buffers.specs.Slots.{buffer_at, after_move, CanMove};
+ghost use Rattle.std.specs.Prelude.{◌≡◌, ◌<◌, ℕ, IsOk, IfOk, OnOk, MatchOption, Some, false};
+ghost use Rattle.gv_buffers.specs.Slots.{buffer_at, after_move, CanMove, HasRoomForJob, IsUserIn};
 ghost use Rattle.gv_buffers.specs.Buffers.{count, use_fault};
 
 use crate::counter::{Counter, Move};
 use crate::users::Users;
 use gv_types::{Fault, Generation};
+use std::alloc::AllocError;
 
 /// A live buffer at its index.
 #[derive(Drop)]
@@ -44,6 +45,19 @@ impl LiveBuffer {
             Move::BroughtBack | Move::Released => self.kept -= 1,
             Move::In | Move::Out => {}
         }
+    }
+
+    /// Makes room for a job among its users. Whether the job is new among them.
+    pub fn reserve_user(&mut self, job: u64) -> Result<bool, AllocError>
+        ensures same { (index : ℕ) → buffer_at index self.new ≡ buffer_at index self.old }
+        ensures room { OnOk result (HasRoomForJob job (Some self.new)) }
+        ensures user { IfOk result (λ is_new. is_new ≡ false → IsUserIn job (Some self.old)) }
+    {
+        if self.users.index_of(job).is_some() {
+            return Ok(false);
+        }
+        self.users.list.reserve(1)?;
+        Ok(true)
     }
 
     /// Gives room back that its users don't need.

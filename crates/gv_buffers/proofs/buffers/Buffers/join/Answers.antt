@@ -10,18 +10,18 @@ use Rattle.gv_buffers.proofs.buffers.Buffers.join.Goals as goal
 
 pub returns-in_default-clause-fault : goal.returns-in_default-clause-fault
 returns-in_default-clause-fault c =
-    let missed : live_at c.self.inside.slots.entries.items c.args.id ≡ None = rw c.in_default.is at (sym c.get.ensures) in
+    let missed : live_at c.self.inside.slots.entries c.args.id ≡ None = rw c.in_default.is at (sym c.get.ensures) in
     rw (ap (join_fault_of c.args.job c.args.usage) (missed_buffer c.self.inside c.args.self.now c.args.id c.self.view_is missed)) refl
 
 pub conflict-requires : goal.conflict-requires
 conflict-requires c =
-    let found : live_at c.self.inside.slots.entries.items c.args.id ≡ Some c.in-Some.slot.now = rw c.in-Some.is at (sym c.get.ensures) in
+    let found : live_at c.self.inside.slots.entries c.args.id ≡ Some c.in-Some.slot.now = rw c.in-Some.is at (sym c.get.ensures) in
     no_conflict_in_slot c.self.inside c.args.id c.in-Some.slot.now c.self.invariant found
 
 pub returns-in-Some-conflict-clause-fault : goal.returns-in-Some-conflict-clause-fault
 returns-in-Some-conflict-clause-fault c =
     let slot = c.in-Some.slot.now in
-    let found : live_at c.self.inside.slots.entries.items c.args.id ≡ Some c.in-Some.slot.now = rw c.in-Some.is at (sym c.get.ensures) in
+    let found : live_at c.self.inside.slots.entries c.args.id ≡ Some c.in-Some.slot.now = rw c.in-Some.is at (sym c.get.ensures) in
     let meets : conflict c.args.job c.args.usage slot.users.list.items ≡ Some c.in-Some-conflict.job =
     sym c.conflict.ensures ∙ c.in-Some-conflict.is in
     rw (ap (join_fault_of c.args.job c.args.usage) (found_buffer c.self.inside c.args.self.now c.args.id slot c.self.view_is found)) (rw meets refl)
@@ -34,7 +34,7 @@ invariant_of-self c =
 pub returns-in_err-reserve_user-clause-fault : goal.returns-in_err-reserve_user-clause-fault
 returns-in_err-reserve_user-clause-fault c =
     let slot = c.in-Some.slot.now in
-    let found : live_at c.self.inside.slots.entries.items c.args.id ≡ Some c.in-Some.slot.now = rw c.in-Some.is at (sym c.get.ensures) in
+    let found : live_at c.self.inside.slots.entries c.args.id ≡ Some c.in-Some.slot.now = rw c.in-Some.is at (sym c.get.ensures) in
     let meets_none : conflict c.args.job c.args.usage slot.users.list.items ≡ None =
     sym c.conflict.ensures ∙ c.in_default-conflict.is in
     let p = err_from_is_err_and c.from_residual.result c.from_residual.ensures.1 in
@@ -49,7 +49,7 @@ returns-in_err-reserve_user-clause-err c =
 pub invariant_of-self-2 : goal.invariant_of-self-2
 invariant_of-self-2 c =
     let slot = c.in-Some.slot.now in
-    let found : live_at c.self.inside.slots.entries.items c.args.id ≡ Some c.in-Some.slot.now = rw c.in-Some.is at (sym c.get.ensures) in
+    let found : live_at c.self.inside.slots.entries c.args.id ≡ Some c.in-Some.slot.now = rw c.in-Some.is at (sym c.get.ensures) in
     let meets_none : conflict c.args.job c.args.usage slot.users.list.items ≡ None =
     sym c.conflict.ensures ∙ c.in_default-conflict.is in
     let room = c.in_ok-reserve_user.ensures in
@@ -61,7 +61,7 @@ invariant_of-self-2 c =
 pub returns-clause-fault : goal.returns-clause-fault
 returns-clause-fault c =
     let slot = c.in-Some.slot.now in
-    let found : live_at c.self.inside.slots.entries.items c.args.id ≡ Some c.in-Some.slot.now = rw c.in-Some.is at (sym c.get.ensures) in
+    let found : live_at c.self.inside.slots.entries c.args.id ≡ Some c.in-Some.slot.now = rw c.in-Some.is at (sym c.get.ensures) in
     let meets_none : conflict c.args.job c.args.usage slot.users.list.items ≡ None =
     sym c.conflict.ensures ∙ c.in_default-conflict.is in
     rw (ap (join_fault_of c.args.job c.args.usage) (found_buffer c.self.inside c.args.self.now c.args.id slot c.self.view_is found)) (rw meets_none tt)
@@ -69,7 +69,7 @@ returns-clause-fault c =
 pub returns-clause-ok : goal.returns-clause-ok
 returns-clause-ok c =
     let slot = c.in-Some.slot.now in
-    let found : live_at c.self.inside.slots.entries.items c.args.id ≡ Some c.in-Some.slot.now = rw c.in-Some.is at (sym c.get.ensures) in
+    let found : live_at c.self.inside.slots.entries c.args.id ≡ Some c.in-Some.slot.now = rw c.in-Some.is at (sym c.get.ensures) in
     let meets_none : conflict c.args.job c.args.usage slot.users.list.items ≡ None =
     sym c.conflict.ensures ∙ c.in_default-conflict.is in
     let room = c.in_ok-reserve_user.ensures in
@@ -93,7 +93,7 @@ returns-in_err-reserve_user-clause-table c =
 pub returns-clause-table : goal.returns-clause-table
 returns-clause-table c =
     let slot = c.in-Some.slot.now in
-    let found : live_at c.self.inside.slots.entries.items c.args.id ≡ Some c.in-Some.slot.now = rw c.in-Some.is at (sym c.get.ensures) in
+    let found : live_at c.self.inside.slots.entries c.args.id ≡ Some c.in-Some.slot.now = rw c.in-Some.is at (sym c.get.ensures) in
     let meets_none : conflict c.args.job c.args.usage slot.users.list.items ≡ None =
     sym c.conflict.ensures ∙ c.in_default-conflict.is in
     let room = c.in_ok-reserve_user.ensures in

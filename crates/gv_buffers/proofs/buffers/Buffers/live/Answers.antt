@@ -3,4 +3,4 @@ use Rattle.gv_buffers.proofs.TablesAndSlots.{count_live}
 use Rattle.gv_buffers.proofs.buffers.Buffers.live.Goals as goal
 
 pub returns : goal.returns
-returns c = omega (arith, count_live c.self.inside c.args.self.now c.self.view_is, c.self.invariant.vacant.all, c.len.ensures, c.len-2.ensures)
+returns c = omega (arith, count_live c.self.inside c.args.self.now c.self.view_is, c.live.ensures)

@@ -5,21 +5,12 @@ pub invariant_of-self : goal.invariant_of-self
 invariant_of-self c =
     let a = c.self.inside in
     let b = c.shrink_buffers in
-    let was = (unchanged a c.args.self.now b.new.self a.indices c.self.invariant c.self.view_is b.ensures.vacant b.ensures.length b.ensures.same (λ job index noted. noted)).sound in
-    let e = c.shrink.ensures.entries in
-    record {
-      limit = was.limit;
-      few = rw e was.few;
-      buffers = rw e was.buffers;
-      noted = rw e was.noted;
-      vacant = rw (e, c.shrink.ensures.vacant) was.vacant;
-      room = c.shrink.ensures.kept was.room;
-      within = rw e was.within;
-    }
+    rw c.shrink.ensures
+    (unchanged a c.args.self.now b.new.self a.indices c.self.invariant c.self.view_is b.ensures.vacant b.ensures.length b.ensures.same (λ job index noted. noted)).sound
 
 pub returns : goal.returns
 returns c =
     let a = c.self.inside in
     let b = c.shrink_buffers in
-    rw (c.shrink.ensures.entries, c.shrink.ensures.vacant)
+    rw c.shrink.ensures
     (unchanged a c.args.self.now b.new.self a.indices c.self.invariant c.self.view_is b.ensures.vacant b.ensures.length b.ensures.same (λ job index noted. noted)).table

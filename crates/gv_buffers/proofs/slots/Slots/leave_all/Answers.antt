@@ -8,7 +8,7 @@ loop-index-preserved c =
     let indices = c.args.indices.now in
     let before = c.loop-index.invariant in (
       rw (take_more indices c.loop-index.index-index 0 c.loop-index-test.true)
-          (HaveLeft-more c.args.job c.args.self.now.entries.items c.loop-index.self.entries.items c.leave.new.self.entries.items _ (get_or indices c.loop-index.index-index 0) before.0 c.leave.ensures.here c.leave.ensures.others),
+          (HaveLeft-more c.args.job c.args.self.now.entries c.loop-index.self.entries c.leave.new.self.entries _ (get_or indices c.loop-index.index-index 0) before.0 c.leave.ensures.here c.leave.ensures.others),
       c.leave.ensures.length ∙ before.1,
       c.leave.ensures.vacant ∙ before.2,
     )
