@@ -36,7 +36,6 @@ mod tally;
 mod terms;
 mod text;
 mod watcher;
-mod whereabouts;
 
 pub use act::{Act, Cause, Moment};
 pub use fault::ReplayFault;

@@ -9,7 +9,6 @@ use crate::replayed::Replayed;
 use crate::tally::Tally;
 use crate::text::number_of;
 use crate::watcher::Watcher;
-use crate::whereabouts::Whereabouts;
 use gv_space::Space;
 use gv_types::{BufferId, Fault, Op, PAGE_BYTES, PageRange};
 use std::alloc::Global;
@@ -20,16 +19,12 @@ mod room;
 
 pub use freeing::Freed;
 
-/// So many ranges of a buffer may be known beside twice as many as it has mappings.
-const SLACK: u64 = 64;
-
 /// The address space and its journal, what is known of each entry, and what was counted. The journal holds the newest entries, as
 /// many as it may; older ones are settled, so that buffers that were freed can go. It has to be closed: it isn't `Drop`.
 pub struct Replay {
     machine: Machine,
     acts: VecDeque<Act>,
     freed: FreedBuffers,
-    whereabouts: Whereabouts,
     pub tally: Tally,
 }
 
@@ -54,7 +49,6 @@ impl Replay {
             machine: Machine::new(alloc)?,
             acts: VecDeque::new(alloc),
             freed: FreedBuffers::new(alloc),
-            whereabouts: Whereabouts::new(alloc),
             tally: Tally::new(alloc, all),
         })
     }
@@ -147,7 +141,19 @@ impl Replay {
         watcher: &mut V,
     ) -> Result<bool, ReplayFault> {
         let ops = Vec::from_slice(alloc, &[act.op])?;
-        self.carry_out_as(alloc, act, ops, watcher)
+        self.make_room(watcher)?;
+        match refusal(self.machine.bind(alloc, ops))? {
+            Ok(_) => {
+                self.note_done(act)?;
+                watcher.bound(act, None, self.machine.newest(), self.machine.space())?;
+                Ok(true)
+            }
+            Err(fault) => {
+                self.note_refused(act, fault)?;
+                watcher.bound(act, Some(fault), &[], self.machine.space())?;
+                Ok(false)
+            }
+        }
     }
 
     /// Carries out a map, and counts it where it meets live mappings. Whether it was accepted.
@@ -194,69 +200,12 @@ impl Replay {
         Ok(())
     }
 
-    /// Carries out these operations, which come to the same as the one that is told.
-    fn carry_out_as<V: Watcher>(
-        &mut self,
-        alloc: Global,
-        act: &Act,
-        ops: Vec<Op>,
-        watcher: &mut V,
-    ) -> Result<bool, ReplayFault> {
-        self.make_room(watcher)?;
-        match refusal(self.machine.bind(alloc, ops))? {
-            Ok(_) => {
-                self.note_done(alloc, act)?;
-                watcher.bound(act, None, self.machine.newest(), self.machine.space())?;
-                Ok(true)
-            }
-            Err(fault) => {
-                self.note_refused(act, fault)?;
-                watcher.bound(act, Some(fault), &[], self.machine.space())?;
-                Ok(false)
-            }
-        }
-    }
-
-    fn note_done(&mut self, alloc: Global, act: &Act) -> Result<(), ReplayFault> {
-        self.note_bound(act)?;
-        self.note_mapped(alloc, act)
-    }
-
-    fn note_bound(&mut self, act: &Act) -> Result<(), ReplayFault> {
+    fn note_done(&mut self, act: &Act) -> Result<(), ReplayFault> {
         // The borrow checker proves this only where the function names the types inside the act.
         let _op = Op::Unmap { addr: 0, len: 0 };
         self.tally.binds = self.tally.binds.saturating_add(1);
         self.acts.push_back(*act)?;
         Ok(())
-    }
-
-    /// Keeps where a buffer was mapped.
-    fn note_mapped(&mut self, alloc: Global, act: &Act) -> Result<(), ReplayFault> {
-        let Op::Map {
-            addr,
-            len,
-            buffer,
-            ..
-        } = act.op
-        else {
-            return Ok(());
-        };
-        let Some(range) = pages_of(addr, len) else {
-            return Ok(());
-        };
-        let known = self.whereabouts.add(alloc, &buffer, range)? as u64;
-        let uses = self.machine.space().uses(buffer).unwrap_or(0);
-        if known > uses.saturating_mul(2).saturating_add(SLACK) {
-            let ranges = self.mapped(alloc, &buffer)?;
-            self.whereabouts.set(&buffer, ranges);
-        }
-        Ok(())
-    }
-
-    /// The ranges of a buffer's mappings, ascending.
-    fn mapped(&self, alloc: Global, buffer: &BufferId) -> Result<Vec<PageRange>, ReplayFault> {
-        let list = self.machine.space().list();
-        Ok(self.whereabouts.mapped(alloc, list, buffer)?)
     }
 
     fn note_refused(&mut self, act: &Act, fault: Fault) -> Result<(), ReplayFault> {
@@ -269,7 +218,6 @@ impl Replay {
             machine,
             acts,
             freed: _,
-            whereabouts: _,
             tally,
         } = self;
         Replayed {

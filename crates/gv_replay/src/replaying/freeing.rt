@@ -5,11 +5,8 @@ use crate::act::{Act, Cause, Moment};
 use crate::fault::ReplayFault;
 use crate::occurrence::Occurrence;
 use crate::watcher::Watcher;
-use gv_types::{BufferId, Op, PAGE_BYTES, PageRange};
+use gv_types::{BufferId, Op};
 use std::alloc::Global;
-
-/// A request has at most so many operations.
-const MAX_PIECES: usize = 256;
 
 /// A buffer that is freed: its own range in bytes, the line that made it, and why it goes.
 #[derive(Clone, Copy)]
@@ -42,14 +39,6 @@ impl Freed {
             cause: self.cause,
         }
     }
-
-    /// How many of these ranges lie in its own one.
-    fn own_of(&self, mapped: &[PageRange]) -> u64 {
-        let Some(own) = pages_of(self.addr, self.len) else {
-            return 0;
-        };
-        mapped.iter().filter(|range| range.lies_in(own)).count() as u64
-    }
 }
 
 impl Replay {
@@ -62,18 +51,31 @@ impl Replay {
         freed: &Freed,
         watcher: &mut V,
     ) -> Result<(), ReplayFault> {
-        let mapped = self.mapped(alloc, &freed.buffer)?;
         let uses = self.machine.space().uses(freed.buffer).unwrap_or(0);
-        let others = uses.saturating_sub(freed.own_of(mapped.as_slice()));
+        let others = uses.saturating_sub(self.own_mappings(freed));
         if others > 0 {
             self.note_reached(moment, freed, others)?;
         }
         if uses > 0 {
-            let act = freed.act(moment);
-            let ops = ops_of(alloc, &act, mapped.as_slice(), uses)?;
-            self.carry_out_as(alloc, &act, ops, watcher)?;
+            self.attempt(alloc, &freed.act(moment), watcher)?;
         }
         self.destroy_later(freed.buffer)
+    }
+
+    /// How many mappings of the buffer lie in its own range.
+    fn own_mappings(&self, freed: &Freed) -> u64 {
+        let Some(own) = pages_of(freed.addr, freed.len) else {
+            return 0;
+        };
+        let list = self.machine.space().list();
+        let (index, count) = list.overlapping(own);
+        let mut mappings: u64 = 0;
+        for mapping in list.run(index, count) {
+            if mapping.is_of(freed.buffer) && mapping.range().lies_in(own) {
+                mappings = mappings.saturating_add(1);
+            }
+        }
+        mappings
     }
 
     fn note_reached(
@@ -87,25 +89,4 @@ impl Replay {
         let occurrence = Occurrence::reached(moment, freed.buffer, numbers);
         self.tally.still_reached.add(occurrence)
     }
-}
-
-/// Unmaps of a buffer's mappings, where these ranges are those of all and one request has room for them. Else its unmap, which
-/// searches the whole list for them.
-fn ops_of(
-    alloc: Global,
-    act: &Act,
-    mapped: &[PageRange],
-    uses: u64,
-) -> Result<Vec<Op>, ReplayFault> {
-    if mapped.len() as u64 != uses || mapped.len() > MAX_PIECES {
-        return Ok(Vec::from_slice(alloc, &[act.op])?);
-    }
-    let mut ops = Vec::new(alloc);
-    for range in mapped {
-        ops.push(Op::Unmap {
-            addr: range.first().saturating_mul(PAGE_BYTES),
-            len: range.count().saturating_mul(PAGE_BYTES),
-        })?;
-    }
-    Ok(ops)
 }

@@ -46,7 +46,6 @@ impl Replay {
     /// Destroys a buffer, or lets it wait on.
     fn destroy<V: Watcher>(&mut self, id: BufferId, watcher: &mut V) -> Result<(), ReplayFault> {
         if self.is_destroyed(&id) {
-            self.whereabouts.forget(&id);
             watcher.destroyed(number_of(&id))
         } else {
             self.destroy_later(id)
