@@ -4,6 +4,7 @@ use crate::fault::ServeFault;
 use crate::line::serve_text;
 use crate::partial::Partial;
 use crate::reason::why_bad;
+use crate::reply::empty;
 use gv_json::{write_bad, write_no_memory, write_reply};
 use gv_lines::{Slip, split_once};
 use gv_text::{LineFault, Output, Session, Sink, Source, WriteFault, write_why};
@@ -112,8 +113,8 @@ struct LineReply {
 impl LineReply {
     /// Carries out a line, and says in JSON what it came to. Nothing for an empty line and a comment.
     fn answer(&mut self, alloc: Global, session: &mut Session, number: u64, line: &[u8]) {
-        self.json.clear();
-        self.reply.clear();
+        empty(&mut self.json);
+        empty(&mut self.reply);
         if line.is_empty() || line[0] == b'#' && line.is_ascii() {
             return;
         }

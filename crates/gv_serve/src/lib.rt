@@ -10,6 +10,7 @@ mod line;
 mod partial;
 mod queue_lines;
 mod reason;
+mod reply;
 mod talk;
 
 pub use dialogue::serve;

@@ -8,13 +8,11 @@ ghost use Rattle.gv_serve.specs.Partial.{line_limit, IsOver};
 use crate::bad::write_bad;
 use crate::line::serve_text;
 use crate::reason::why_bad;
+use crate::reply::{empty, new_reply};
 use gv_lines::Slip;
 use gv_text::{LineFault, Output, Session, Sink, WriteFault, write_why};
 use gv_types::OutOfMemory;
 use std::alloc::Global;
-
-/// Room for the reply of most lines is there from the beginning.
-const REPLY_ROOM: usize = 4_096;
 
 /// The session of a dialogue, the reply of its last line, the text that is not written yet, and the number of the next line.
 /// The session has to be closed.
@@ -32,7 +30,7 @@ impl Talk {
         ensures output { IfOk result (λ talk. talk.output ≡ []) }
         ensures number { IfOk result (λ talk. talk.number ≡ 1) }
     {
-        let reply = String::with_capacity(alloc, REPLY_ROOM)?;
+        let reply = new_reply(alloc)?;
         Ok(Talk {
             session: Session::new(alloc)?,
             reply,
@@ -58,7 +56,7 @@ impl Talk {
     {
         let number = self.number;
         self.number = number.saturating_add(1);
-        self.reply.clear();
+        empty(&mut self.reply);
         match serve_text(alloc, &mut self.session, line, &mut self.reply) {
             Ok(()) => self.output.push(writer, self.reply.as_bytes()),
             Err(LineFault::Bad) => {

@@ -12,7 +12,7 @@ pub returns-in-Ok-clause-answered : goal.returns-in-Ok-clause-answered
 returns-in-Ok-clause-answered g c =
     let ran = c.in-Ok.ensures.done in
     let text_is : c.as_bytes.result.now ≡ ran.written.text =
-    c.as_bytes.ensures.value ∙ ran.text ∙ ap (λ (bytes : List ℕ). bytes ++ ran.written.text) c.clear.ensures.bytes in
+    c.as_bytes.ensures.value ∙ ran.text ∙ ap (λ (bytes : List ℕ). bytes ++ ran.written.text) c.empty.ensures.bytes in
     then_ok c.push.result _ _ (λ wrote. (
       c.as_bytes.result.now,
       others_in (parsed c.args.line.now),
