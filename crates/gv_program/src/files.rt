@@ -2,7 +2,6 @@
 ghost use Rattle.std.specs.Prelude.{◌≡◌, IfErr};
 
 use crate::fault::ProgramFault;
-use gv_lines::number_of;
 use gv_text::{ReadSource, ScriptFault, Source};
 use std::alloc::{AllocError, Global};
 use std::fs;
@@ -43,10 +42,24 @@ fn add(bytes: &mut Vec<u8>, chunk: &[u8], count: usize) -> Result<(), AllocError
     bytes.extend_from_slice(&chunk[..count.min(chunk.len())])
 }
 
-/// The address that a word is, in bytes: a number as in scripts.
+/// The address that a word is, in bytes: hexadecimal digits, with or without `0x`.
 pub fn address(word: &str) -> Result<u64, ProgramFault> {
-    match number_of(word.as_bytes()) {
-        Some(addr) => Ok(addr),
-        None => Err(ProgramFault::NoAddress),
+    let digits = without_prefix(word);
+    if !digits.bytes().all(|byte| byte.is_ascii_hexdigit()) {
+        return Err(ProgramFault::NoAddress);
     }
+    match u64::from_str_radix(digits, 16) {
+        Ok(addr) => Ok(addr),
+        Err(_) => Err(ProgramFault::NoAddress),
+    }
+}
+
+/// What follows `0x` in a word, or the word.
+fn without_prefix(word: &str) -> &str {
+    for prefix in ["0x", "0X"] {
+        if let Some(digits) = word.strip_prefix(prefix) {
+            return digits;
+        }
+    }
+    word
 }

@@ -80,7 +80,7 @@ Exit statuses:
 pub const FORMAT: &str = "The format of the log: radv, amdgpu, xe, i915 or gpuvas";
 
 /// What `--at` of a log says.
-pub const ADDRESSES: &str = "Reports what this address, in bytes, reached and when; repeatable";
+pub const ADDRESSES: &str = "Reports what this address, hexadecimal, reached and when; repeatable";
 
 /// What `--flags` says.
 pub const FLAGS: &str = "What the flags of amdgpu's events mean: entry or call";
@@ -123,7 +123,7 @@ Exit statuses:
   4  out of memory";
 
 /// What `--at` of a picture says.
-pub const AT: &str = "Draws only requests that changed a page near this address, in bytes";
+pub const AT: &str = "Draws only requests that changed a page near this address, hexadecimal";
 
 /// What `--width` says.
 pub const WIDTH: &str = "The width of the picture in pixels, 1 to 16384; less than 900 is 900";

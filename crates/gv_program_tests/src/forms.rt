@@ -74,10 +74,24 @@ fn draws_a_log(rt: HostRuntime) -> Result<(), AllocError> {
 /// Sizes are measured first where the format wants it, and the picture is around the first address.
 #[test]
 fn draws_a_log_around_an_address(rt: HostRuntime) -> Result<(), AllocError> {
-    let words = "vmbind replay --format amdgpu --draw --at 0x101000 --at 0x0";
-    let log = "amdgpu_vm_bo_map: bo=0xf0, start=100, last=101, offset=0000000000, flags=70\n";
-    let parts = [">Around 0x101000<", ">line 1: map 0x100000 0x2000 b1 0x0<"];
-    expect_parts(&rt, (words, log, "--\n0"), "", &parts)
+    let words = "vmbind replay --format amdgpu --draw --at 0xab1000 --at 0x0";
+    let parts = [">Around 0xab1000<", ">line 1: map 0xab0000 0x2000 b1 0x0<"];
+    expect_parts(&rt, (words, EVENT, "--\n0"), "", &parts)
+}
+
+const EVENT: &str = "amdgpu_vm_bo_map: bo=0xf0, start=ab0, last=ab1, offset=0000000000, flags=70\n";
+
+/// An address is hexadecimal, however it is written.
+#[test]
+fn takes_each_form_of_an_address(rt: HostRuntime) -> Result<(), AllocError> {
+    for words in [
+        "vmbind replay --format amdgpu --draw --at ab1000",
+        "vmbind replay --format amdgpu --draw --at 0XAB1000",
+        "vmbind replay --format amdgpu --draw --at 00000000000000ab1000",
+    ] {
+        expect_parts(&rt, (words, EVENT, "--\n0"), "", &[">Around 0xab1000<"])?;
+    }
+    Ok(())
 }
 
 const TWO_FORMS: &str = "--vmbind: more than one form\n--\n2";

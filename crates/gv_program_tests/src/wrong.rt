@@ -36,7 +36,22 @@ const FAULTS: &[Row<'static>] = &[
         "--vmbind: file not opened\n--\n3",
     ),
     (
-        "vmbind draw --at 0xA",
+        "vmbind draw --at 0xg",
+        INPUT,
+        "--vmbind: not an address\n--\n2",
+    ),
+    (
+        "vmbind draw --at 0x",
+        INPUT,
+        "--vmbind: not an address\n--\n2",
+    ),
+    (
+        "vmbind draw --at +1",
+        INPUT,
+        "--vmbind: not an address\n--\n2",
+    ),
+    (
+        "vmbind draw --at 0x10000000000000000",
         INPUT,
         "--vmbind: not an address\n--\n2",
     ),
